@@ -1,0 +1,62 @@
+-- The laws of specs/Laws.antt, each under its name.
+-- Assumes nothing.
+use mathlib.Core.Path.{_≡_, refl, sym, ap, _∙_}
+use mathlib.Core.Bool.{Bool, true, false}
+use mathlib.Core.List.{List}
+use Prim.Native.Nat.{ℕ, _≤_}
+use native.Mathlib.Omega.{arith}
+use lib.Bits.{bitXor}
+use lib.ListN.{length}
+use Rattle.promise.proofs.Promise.{equal-determined, decides-determined}
+use Rattle.check_word.specs.CheckWord.{start, addBytes, checkWord}
+use Rattle.check_word.specs.Frame.{Right, Put}
+use Rattle.check_word.specs.Line.{lineBits, differences, onesAt, Shown, two, odd, burst}
+use Rattle.check_word.specs.Laws as laws
+use Rattle.check_word.proofs.Fed.{fed, add-bytes-fed, fed-sum, length-sum}
+use Rattle.check_word.proofs.Line.{feed, length-line, length-differences}
+use Rattle.check_word.proofs.Frame.{framed-right, put-right, differences-zero}
+use Rattle.check_word.proofs.Clear.{two-leave, burst-leaves}
+use Rattle.check_word.proofs.Parity.{odd-leave}
+
+pub NoBytes : laws.NoBytes
+unfolding checkWord addBytes
+NoBytes = refl
+
+-- three start words leave one: two of them cancel
+pub Sum : laws.Sum
+unfolding checkWord
+Sum a b c h k =
+    simp add-bytes-fed
+    (fed-sum 8 (laws.sum a b) c 0 start (length-sum a b h ∙ k)
+    ∙ ap (λ (w : ℕ). bitXor w (fed 8 start c)) (fed-sum 8 a b start start h))
+
+-- differences of a kind that shows never leave 0
+shown-leave : (xs : List Bool) → length xs ≤ 2048 → Shown (onesAt 0 xs) → feed 0 xs ≡ 0 → ⊥
+shown-leave xs l (two s) e = two-leave xs 0 l s e
+shown-leave xs l (odd s) e = odd-leave xs 0 s e
+shown-leave xs l (burst s) e = burst-leaves xs 0 s e
+
+pub Damage : laws.Damage
+Damage f g bf bg same most right shown right′ =
+    let xs = differences (lineBits f) (lineBits g) in
+    shown-leave xs (omega (arith, length-differences (lineBits f) (lineBits g), length-line f)) shown
+    (differences-zero f g bf bg same right right′)
+
+pub Framing : laws.Framing
+Framing = framed-right
+
+pub PutFraming : laws.PutFraming
+PutFraming = put-right
+
+pub CheckWordDetermined : laws.CheckWordDetermined
+CheckWordDetermined bytes = equal-determined (checkWord bytes)
+
+pub IsRightDetermined : laws.IsRightDetermined
+IsRightDetermined frame = decides-determined (Right frame)
+
+pub PutCheckWordDetermined : laws.PutCheckWordDetermined
+unfolding Put
+PutCheckWordDetermined n before (true, x) (true, y) p q = ap (λ (after : List ℕ). (true, after)) (p .1 ∙ sym (q .1))
+PutCheckWordDetermined n before (true, x) (false, y) p q = absurd (omega arith)
+PutCheckWordDetermined n before (false, x) (true, y) p q = absurd (omega arith)
+PutCheckWordDetermined n before (false, x) (false, y) p q = ap (λ (after : List ℕ). (false, after)) (p .1 ∙ sym (q .1))

@@ -1,0 +1,9 @@
+mod Xor
+mod Step
+mod Fed
+mod Line
+mod Frame
+mod Clear
+mod Parity
+mod Witnesses
+pub mod Laws

@@ -1,0 +1,63 @@
+// The check word of a run of bytes; whether a frame ends in its check word; a check word put behind a body.
+// No public function has a `requires`.
+mod table;
+
+ghost use mathlib.Core.Path.{_≡_};
+ghost use Rattle.promise.specs.Promise.{Decides};
+ghost use Rattle.check_word.specs.CheckWord.{addByte, checkWord};
+ghost use Rattle.check_word.specs.Frame.{Right, Put};
+
+const START: u16 = 0xffff;
+
+// The check word so far, with one more byte: the table puts the low byte through its eight steps at once.
+fn add_byte(word: u16, byte: u8) -> u16
+    ensures { λ r. ⌜ r ≡ addByte word byte ⌝ }
+{
+    let mixed = word ^ (byte as u16);
+    table::entry((mixed % 256) as u8) ^ (mixed / 256)
+}
+
+// The check word of the bytes.
+pub fn check_word(bytes: &[u8]) -> u16
+    ensures { λ r. ⌜ r ≡ checkWord (now (bytes .entry)) ⌝ }
+{
+    let mut word = START;
+    let mut i = 0;
+    while i < bytes.len() {
+        word = add_byte(word, bytes[i]);
+        i += 1;
+    }
+    word
+}
+
+// Whether the frame's last two bytes, low byte first, are the check word of the rest. Under two bytes: no.
+pub fn is_right(frame: &[u8]) -> bool
+    ensures { λ r. ⌜ Decides (Right (now (frame .entry))) r ⌝ }
+{
+    if frame.len() < 2 {
+        return false;
+    }
+    let n = frame.len() - 2;
+    let word = check_word(&frame[..n]);
+    if frame[n] != (word % 256) as u8 {
+        return false;
+    }
+    frame[n + 1] == (word / 256) as u8
+}
+
+// Puts the check word of the buffer's first n bytes behind them, low byte first, and says whether there was room.
+// Every other byte keeps its content; without room all do.
+pub fn put_check_word(buffer: &mut [u8], n: usize) -> bool
+    ensures { λ r. ⌜ Put n (now (buffer .entry)) r (now (buffer .exit)) ⌝ }
+{
+    if buffer.len() < 2 {
+        return false;
+    }
+    if buffer.len() - 2 < n {
+        return false;
+    }
+    let word = check_word(&buffer[..n]);
+    buffer[n] = (word % 256) as u8;
+    buffer[n + 1] = (word / 256) as u8;
+    true
+}
