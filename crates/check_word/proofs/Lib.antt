@@ -5,5 +5,6 @@ mod Line
 mod Frame
 mod Clear
 mod Parity
+mod Contracts
 mod Witnesses
 pub mod Laws

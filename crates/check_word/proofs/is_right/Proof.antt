@@ -15,7 +15,7 @@ use Rattle.check_word.specs.Frame.{Right, lowFirst}
 use Rattle.check_word.proofs.is_right.Statement.{statement}
 use Rattle.check_word.proofs.is_right.Tie as tie
 
--- the last two bytes of a frame, and the rest of it, by the place n where the check word begins
+-- the last two elements of a list, one by one
 last-two : (f : List ℕ) (n : ℕ) → n + 2 ≡ length f → drop n f ≡ getD f n 0 ∷ getD f (n + 1) 0 ∷ []
 last-two f n h =
     drop-cons f n 0 (omega arith)

@@ -1,4 +1,4 @@
--- `put_check_word` meets its contract.
+-- `put_check_word` meets its contract: two stores behind the body make it a frame, and leave the rest.
 -- Assumes nothing.
 use mathlib.Core.Path.{_≡_, refl, sym, ap, _∙_}
 use mathlib.Core.List.{List, _++_}
