@@ -11,8 +11,8 @@ use lib.ListN.{length, take, drop, length-append, take-append-drop}
 use lib.Pow.{split, pow-pos}
 use lib.Seq.{take-at, drop-at, length-take-le}
 use Rattle.check_word.specs.CheckWord.{start, corrected, step, steps, checkWord}
-use Rattle.check_word.specs.Frame.{Bytes, lowFirst, framed, Right, Put}
-use Rattle.check_word.specs.Line.{lineBits, differences}
+use Rattle.check_word.specs.Frame.{lowFirst, framed, Right, Put}
+use Rattle.check_word.specs.Line.{lineBits, differences, Damaged}
 use Rattle.check_word.proofs.Xor.{xor-twice}
 use Rattle.check_word.proofs.Step.{steps-shifted}
 use Rattle.check_word.proofs.Fed.{fed, fed-append, add-bytes-fed}
@@ -62,9 +62,8 @@ right-zero f right =
     ap (fed 8 start) (sym (take-append-drop n f)) ∙ fed-append 8 start (take n f) (drop n f)
     ∙ ap₂ (fed 8) (sym (add-bytes-fed start (take n f))) (right .ends) ∙ fed-itself word
 
--- so where two right frames differ, the differences alone leave 0
-pub differences-zero : (f g : List ℕ) → Bytes f → Bytes g → length g ≡ length f → Right f → Right g
-    → feed 0 (differences (lineBits f) (lineBits g)) ≡ 0
-differences-zero f g bf bg h rf rg =
-    feed-differences (lineBits f) (lineBits g) start start (omega (arith, length-line f, length-line g))
-    ∙ ap₂ bitXor (sym (feed-line start f bf) ∙ right-zero f rf) (sym (feed-line start g bg) ∙ right-zero g rg)
+-- so where a damaged frame is right too, the differences alone leave 0
+pub differences-zero : (f g : List ℕ) → Damaged f g → Right g → feed 0 (differences (lineBits f) (lineBits g)) ≡ 0
+differences-zero f g d right =
+    feed-differences (lineBits f) (lineBits g) start start (omega (arith, length-line f, length-line g, d .as-long))
+    ∙ ap₂ bitXor (sym (feed-line start f (d .sent)) ∙ right-zero f (d .right)) (sym (feed-line start g (d .received)) ∙ right-zero g right)

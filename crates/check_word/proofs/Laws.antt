@@ -37,10 +37,14 @@ shown-leave xs l (odd s) e = odd-leave xs 0 s e
 shown-leave xs l (burst s) e = burst-leaves xs 0 s e
 
 pub Damage : laws.Damage
-Damage f g bf bg same most right shown right′ =
-    let xs = differences (lineBits f) (lineBits g) in
-    shown-leave xs (omega (arith, length-differences (lineBits f) (lineBits g), length-line f)) shown
-    (differences-zero f g bf bg same right right′)
+Damage f g d right =
+    shown-leave (differences (lineBits f) (lineBits g))
+    (omega (arith, length-differences (lineBits f) (lineBits g), length-line f)) (d .shown)
+    (differences-zero f g d right)
+
+pub DamageTold : laws.DamageTold
+DamageTold f g d true says = absurd (Damage f g d says)
+DamageTold f g d false says = refl
 
 pub Framing : laws.Framing
 Framing = framed-right

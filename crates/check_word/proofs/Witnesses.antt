@@ -1,14 +1,22 @@
--- The laws do not speak of nothing: a frame of the manual is right, and each kind of damage can happen to it.
+-- The damage law does not speak of nothing: damage of each kind to a frame of the manual.
 -- Assumes nothing.
-use mathlib.Core.Path.{refl}
-use mathlib.Core.Bool.{xor}
+use mathlib.Core.Path.{_≡_, refl}
+use mathlib.Core.Bool.{true, xor, and-eq-true-iff}
 use mathlib.Core.List.{List, [], _∷_}
 use Prim.Native.Nat.{ℕ, zero, suc, _+_, _≤_, _<_}
 use native.Mathlib.Omega.{arith}
-use lib.ListN.{getD}
+use lib.Dec.{ltb}
+use lib.ListN.{length, getD}
+use lib.Pow.{areBytes}
+use borrow.Author.Tests.{ltb-true}
 use Rattle.check_word.specs.CheckWord.{corrected, step, steps, addByte, addBytes, checkWord}
-use Rattle.check_word.specs.Frame.{Right}
-use Rattle.check_word.specs.Line.{bits, lineBits, differences, onesAt, differAt, window, Shown, two, odd, burst}
+use Rattle.check_word.specs.Frame.{Bytes, Right}
+use Rattle.check_word.specs.Line.{bits, lineBits, differences, onesAt, differAt, window, Shown, two, odd, burst, Damaged}
+
+bytes-by : (xs : List ℕ) → areBytes xs ≡ true → Bytes xs
+bytes-by [] t i = omega arith
+bytes-by (x ∷ xs) t zero = ltb-true x 256 (and-eq-true-iff (ltb x 256) (areBytes xs) .0 t .0)
+bytes-by (x ∷ xs) t (suc i) = bytes-by xs (and-eq-true-iff (ltb x 256) (areBytes xs) .0 t .1) i
 
 -- section 2.8, first example
 abbrev request : List ℕ
@@ -18,24 +26,35 @@ request-right : Right request
 unfolding checkWord addBytes addByte steps step corrected
 request-right = record { enough = omega arith; ends = refl }
 
+damaged : (g : List ℕ) → areBytes g ≡ true → length g ≡ 8 → Shown (differAt request g) → Damaged request g
+damaged g b l s = record {
+  sent = bytes-by request refl;
+  at-least = omega arith;
+  at-most = omega arith;
+  right = request-right;
+  received = bytes-by g b;
+  as-long = l;
+  shown = s;
+}
+
 -- the first line bit and the last
-two-flips : Shown (differAt request (0x15 ∷ 0x03 ∷ 0x00 ∷ 0x01 ∷ 0x00 ∷ 0x02 ∷ 0x97 ∷ 0x8e ∷ []))
+two-flips : Damaged request (0x15 ∷ 0x03 ∷ 0x00 ∷ 0x01 ∷ 0x00 ∷ 0x02 ∷ 0x97 ∷ 0x8e ∷ [])
 unfolding xor bits lineBits differences onesAt
-two-flips = two refl
+two-flips = damaged _ refl refl (two refl)
 
--- three, in as many bytes
-three-flips : Shown (differAt request (0x15 ∷ 0x13 ∷ 0x80 ∷ 0x01 ∷ 0x00 ∷ 0x02 ∷ 0x97 ∷ 0x0e ∷ []))
+-- one in each of three bytes
+three-flips : Damaged request (0x15 ∷ 0x13 ∷ 0x80 ∷ 0x01 ∷ 0x00 ∷ 0x02 ∷ 0x97 ∷ 0x0e ∷ [])
 unfolding xor bits lineBits differences onesAt
-three-flips = odd refl
+three-flips = damaged _ refl refl (odd refl)
 
--- four in the check word's last byte, and sixteen neighbours that run past the frame's end
-four-neighbours : (i : ℕ) → i < 4 → (60 ≤ getD (60 ∷ 61 ∷ 62 ∷ 63 ∷ []) i 0) × (getD (60 ∷ 61 ∷ 62 ∷ 63 ∷ []) i 0 < 60 + window)
-four-neighbours zero h = omega arith
-four-neighbours (suc zero) h = omega arith
-four-neighbours (suc (suc zero)) h = omega arith
-four-neighbours (suc (suc (suc zero))) h = omega arith
-four-neighbours (suc (suc (suc (suc i)))) h = absurd (omega arith)
+-- the last four line bits, inside sixteen neighbours that run past the frame's end
+four-places : (i : ℕ) → i < 4 → (60 ≤ getD (60 ∷ 61 ∷ 62 ∷ 63 ∷ []) i 0) × (getD (60 ∷ 61 ∷ 62 ∷ 63 ∷ []) i 0 < 60 + window)
+four-places zero h = omega arith
+four-places (suc zero) h = omega arith
+four-places (suc (suc zero)) h = omega arith
+four-places (suc (suc (suc zero))) h = omega arith
+four-places (suc (suc (suc (suc i)))) h = absurd (omega arith)
 
-four-flips : Shown (differAt request (0x14 ∷ 0x03 ∷ 0x00 ∷ 0x01 ∷ 0x00 ∷ 0x02 ∷ 0x97 ∷ 0xfe ∷ []))
+four-flips : Damaged request (0x14 ∷ 0x03 ∷ 0x00 ∷ 0x01 ∷ 0x00 ∷ 0x02 ∷ 0x97 ∷ 0xfe ∷ [])
 unfolding xor bits lineBits differences onesAt
-four-flips = burst (record { some = omega arith; first = 60; inside = four-neighbours })
+four-flips = damaged _ refl refl (burst (record { some = omega arith; first = 60; inside = four-places }))

@@ -26,6 +26,7 @@ corrected false w = w
 unfoldable pub step : ℕ → ℕ
 step w = corrected (lowBit w) (w / 2)
 
+-- n steps
 unfoldable pub steps : ℕ → ℕ → ℕ
 steps zero w = w
 steps (suc n) w = steps n (step w)
@@ -34,10 +35,11 @@ steps (suc n) w = steps n (step w)
 unfoldable pub addByte : ℕ → ℕ → ℕ
 addByte w b = steps 8 (bitXor w b)
 
--- byte after byte
+-- one byte after the other
 unfoldable pub addBytes : ℕ → List ℕ → ℕ
 addBytes w [] = w
 addBytes w (b ∷ bs) = addBytes (addByte w b) bs
 
+-- the check word of the bytes
 unfoldable pub checkWord : List ℕ → ℕ
 checkWord bytes = addBytes start bytes

@@ -7,7 +7,10 @@ use Prim.Native.Nat.{ℕ, _+_, _-_, _/_, _%_, _≤_, _<_}
 use lib.ListN.{length, take, drop, getD}
 use Rattle.check_word.specs.CheckWord.{checkWord}
 
--- the most bytes that a frame has
+-- the fewest and the most bytes of a frame
+abbrev pub shortest : ℕ
+shortest = 4
+
 abbrev pub longest : ℕ
 longest = 256
 

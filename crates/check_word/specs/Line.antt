@@ -6,6 +6,7 @@ use mathlib.Core.List.{List, [], _∷_, _++_}
 use Prim.Native.Nat.{ℕ, zero, suc, _+_, _/_, _%_, _≤_, _<_}
 use lib.ListN.{length, getD}
 use Rattle.check_word.specs.CheckWord.{lowBit}
+use Rattle.check_word.specs.Frame.{shortest, longest, Bytes, Right}
 
 -- the n lowest bits of a number, least significant first
 unfoldable pub bits : ℕ → ℕ → List Bool
@@ -52,8 +53,18 @@ pub record InsideWindow (places : List ℕ) : Type 0 where
   pub first : ℕ
   pub inside : (i : ℕ) → i < length places → (first ≤ getD places i 0) × (getD places i 0 < first + window)
 
--- damage that the check word always shows, by the places of the flipped line bits
+-- damage that the check word always shows, by the places of the flips
 pub data Shown (places : List ℕ) : Type 0 where
   two : ExactlyTwo places → Shown places
   odd : OddInNumber places → Shown places
   burst : InsideWindow places → Shown places
+
+-- a frame f with a right check word was sent, and g was received, as long as f and damaged in one of the three kinds
+pub record Damaged (f g : List ℕ) : Type 0 where
+  pub sent : Bytes f
+  pub at-least : shortest ≤ length f
+  pub at-most : length f ≤ longest
+  pub right : Right f
+  pub received : Bytes g
+  pub as-long : length g ≡ length f
+  pub shown : Shown (differAt f g)
