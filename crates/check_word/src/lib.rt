@@ -1,5 +1,5 @@
 // The check word of a run of bytes; whether a frame ends in its check word; a check word put behind a body.
-// No public function has a `requires`.
+// No public function has a `requires`. The contracts cite specs/CheckWord.antt and specs/Frame.antt.
 mod table;
 
 ghost use mathlib.Core.Path.{_≡_};
