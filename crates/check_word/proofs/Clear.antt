@@ -17,7 +17,7 @@ use Rattle.check_word.specs.Line.{onesAt, ExactlyTwo, InsideWindow}
 use Rattle.check_word.proofs.Xor.{digit, digit-lt, xor-twice}
 use Rattle.check_word.proofs.Step.{step-lt, step-clear}
 use Rattle.check_word.proofs.Fed.{fed}
-use Rattle.check_word.proofs.Line.{feed}
+use Rattle.check_word.proofs.Line.{fedBits}
 
 -- every place is below m
 abbrev Below : ℕ → List ℕ → Type 0
@@ -42,7 +42,7 @@ unfolding onesAt
 below-rest true xs k m b i h = b (suc i) (omega arith)
 below-rest false xs k m b i h = b i h
 
-cleared-lt : (xs : List Bool) (k n w : ℕ) → n ≤ 16 → Below (k + n) (onesAt k xs) → w < 2 ^ 16 → feed w xs ≡ 0 → w < 2 ^ n
+cleared-lt : (xs : List Bool) (k n w : ℕ) → n ≤ 16 → Below (k + n) (onesAt k xs) → w < 2 ^ 16 → fedBits w xs ≡ 0 → w < 2 ^ n
 unfolding fed steps onesAt
 cleared-lt [] k n w l b h e = omega (arith, pow-pos n)
 cleared-lt (true ∷ xs) k zero w l b h e = absurd (omega (arith, b 0 (omega arith)))
@@ -55,48 +55,49 @@ cleared-lt (x ∷ xs) k (suc n) w l b h e =
     let rest : Below (suc k + n) (onesAt (suc k) xs) = λ i g. omega (arith, below-rest x xs k (k + suc n) b i g) in
     fed-lt n w x (omega arith) h (cleared-lt xs (suc k) n (step mixed) (omega arith) rest (step-lt mixed (mixed-lt w x h)) e)
 
--- ---- two 1 bits: after the first the word is the polynomial, and the second would have to find it below 2
+-- ---- two 1 bits: after the first the word is the polynomial, and the second-too-high would have to find it below 2
 
--- in n steps the word does not fall below 2
-stays : ℕ → ℕ → Bool
-stays zero w = true
-stays (suc n) w = leb 2 w && stays n (step w)
+-- for n steps the word does not fall below 2
+aboveOne : ℕ → ℕ → Bool
+aboveOne zero w = true
+aboveOne (suc n) w = leb 2 w && aboveOne n (step w)
 
-stays-now : (n w : ℕ) → stays (suc n) w ≡ true → 2 ≤ w
-unfolding stays
-stays-now n w s = leb-true 2 w (and-eq-true-iff (leb 2 w) (stays n (step w)) .0 s .0)
+above-now : (n w : ℕ) → aboveOne (suc n) w ≡ true → 2 ≤ w
+unfolding aboveOne
+above-now n w s = leb-true 2 w (and-eq-true-iff (leb 2 w) (aboveOne n (step w)) .0 s .0)
 
-stays-on : (n w : ℕ) → stays (suc n) w ≡ true → stays n (step w) ≡ true
-unfolding stays
-stays-on n w s = and-eq-true-iff (leb 2 w) (stays n (step w)) .0 s .1
+above-later : (n w : ℕ) → aboveOne (suc n) w ≡ true → aboveOne n (step w) ≡ true
+unfolding aboveOne
+above-later n w s = and-eq-true-iff (leb 2 w) (aboveOne n (step w)) .0 s .1
 
 only-one : (k : ℕ) (ks : List ℕ) → length (k ∷ ks) ≡ 1 → Below (k + 1) (k ∷ ks)
 only-one k ks o zero h = omega arith
 only-one k ks o (suc i) h = absurd (omega arith)
 
-second : (n : ℕ) (xs : List Bool) (k w : ℕ) → length (onesAt k xs) ≡ 1 → length xs ≤ n → stays n w ≡ true → w < 2 ^ 16 → feed w xs ≡ 0 → ⊥
+-- a single 1 bit, fed while the word stays above 1, never leaves 0
+second-too-high : (n : ℕ) (xs : List Bool) (k w : ℕ) → length (onesAt k xs) ≡ 1 → length xs ≤ n → aboveOne n w ≡ true → w < 2 ^ 16 → fedBits w xs ≡ 0 → ⊥
 unfolding fed steps onesAt
-second n [] k w o l s h e = omega arith
-second zero (x ∷ xs) k w o l s h e = omega arith
-second (suc n) (false ∷ xs) k w o l s h e =
-    second n xs (suc k) (step w) o (omega arith) (stays-on n w s) (step-lt w h)
-    (ap (λ (v : ℕ). feed (step v) xs) (sym (xor-zero-r w)) ∙ e)
-second (suc n) (true ∷ xs) k w o l s h e =
-    omega (arith, stays-now n w s, cleared-lt (true ∷ xs) k 1 w (omega arith) (only-one k (onesAt (suc k) xs) o) h e)
+second-too-high n [] k w o l s h e = omega arith
+second-too-high zero (x ∷ xs) k w o l s h e = omega arith
+second-too-high (suc n) (false ∷ xs) k w o l s h e =
+    second-too-high n xs (suc k) (step w) o (omega arith) (above-later n w s) (step-lt w h)
+    (ap (λ (v : ℕ). fedBits (step v) xs) (sym (xor-zero-r w)) ∙ e)
+second-too-high (suc n) (true ∷ xs) k w o l s h e =
+    omega (arith, above-now n w s, cleared-lt (true ∷ xs) k 1 w (omega arith) (only-one k (onesAt (suc k) xs) o) h e)
 
 -- 256 bytes have 2,048 line bits, so at most 2,047 follow the first; antt computes that many steps
-pub two-leave : (xs : List Bool) (k : ℕ) → length xs ≤ 2048 → ExactlyTwo (onesAt k xs) → feed 0 xs ≡ 0 → ⊥
-unfolding fed steps onesAt step corrected stays
-two-leave [] k l o e = omega arith
-two-leave (false ∷ xs) k l o e = two-leave xs (suc k) (omega arith) o e
-two-leave (true ∷ xs) k l o e = second 2047 xs (suc k) polynomial (omega arith) (omega arith) refl (lit< tt) e
+pub two-never-zero : (xs : List Bool) (k : ℕ) → length xs ≤ 2048 → ExactlyTwo (onesAt k xs) → fedBits 0 xs ≡ 0 → ⊥
+unfolding fed steps onesAt step corrected aboveOne
+two-never-zero [] k l o e = omega arith
+two-never-zero (false ∷ xs) k l o e = two-never-zero xs (suc k) (omega arith) o e
+two-never-zero (true ∷ xs) k l o e = second-too-high 2047 xs (suc k) polynomial (omega arith) (omega arith) refl (lit< tt) e
 
 -- ---- inside 16 neighbours: after the first 1 bit at most 15 can follow, and the polynomial has 16 bits
 
-pub burst-leaves : (xs : List Bool) (k : ℕ) → InsideWindow (onesAt k xs) → feed 0 xs ≡ 0 → ⊥
+pub burst-never-zero : (xs : List Bool) (k : ℕ) → InsideWindow (onesAt k xs) → fedBits 0 xs ≡ 0 → ⊥
 unfolding fed steps onesAt step corrected
-burst-leaves [] k near e = omega arith
-burst-leaves (false ∷ xs) k near e = burst-leaves xs (suc k) near e
-burst-leaves (true ∷ xs) k near e =
+burst-never-zero [] k near e = omega arith
+burst-never-zero (false ∷ xs) k near e = burst-never-zero xs (suc k) near e
+burst-never-zero (true ∷ xs) k near e =
     let begun : near .first ≤ k = near .inside 0 (omega arith) .0 in
     omega (arith, cleared-lt xs (suc k) 15 polynomial (omega arith) (λ i g. omega (arith, near .inside (suc i) (omega arith) .1)) (lit< tt) e)

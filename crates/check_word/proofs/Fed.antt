@@ -6,8 +6,7 @@ use Prim.Native.Nat.{ℕ, suc}
 use native.Mathlib.Omega.{arith}
 use lib.Bits.{bitXor}
 use lib.ListN.{length}
-use Rattle.check_word.specs.CheckWord.{steps, addByte, addBytes}
-use Rattle.check_word.specs.Laws.{sum}
+use Rattle.check_word.specs.CheckWord.{steps, addByte, addBytes, sum}
 use Rattle.check_word.proofs.Xor.{xor-regroup}
 use Rattle.check_word.proofs.Step.{steps-xor}
 

@@ -1,22 +1,21 @@
--- Frames: a body with its check word behind it is right, and a right frame leaves the word 0.
+-- Frames: a body with its check word behind it is right, and of bytes if the body is; a right frame leaves the word 0.
 -- Assumes nothing.
 use mathlib.Core.Path.{_≡_, sym, ap, ap₂, subst, _∙_}
 use mathlib.Core.Bool.{true}
-use mathlib.Core.List.{List}
-use Prim.Native.Nat.{ℕ, _+_, _-_, _*_, _/_, _%_, _^_}
-use native.Mathlib.Nat.{mod-lt}
+use mathlib.Core.List.{List, [], _∷_, _++_}
+use Prim.Native.Nat.{ℕ, zero, suc, _+_, _-_, _/_, _%_, _^_, _<_}
 use native.Mathlib.Omega.{arith}
-use lib.Bits.{bitXor, xor-self, xor-shifted}
+use lib.Bits.{bitXor, xor-self, xor-comm, xor-lt}
+use lib.Dec.{lit<}
 use lib.ListN.{length, take, drop, length-append, take-append-drop}
-use lib.Pow.{split, pow-pos}
 use lib.Seq.{take-at, drop-at, length-take-le}
 use Rattle.check_word.specs.CheckWord.{start, corrected, step, steps, checkWord}
-use Rattle.check_word.specs.Frame.{lowFirst, framed, Right, Put}
+use Rattle.check_word.specs.Frame.{Bytes, lowFirst, framed, Right, Put}
 use Rattle.check_word.specs.Line.{lineBits, differences, Damaged}
 use Rattle.check_word.proofs.Xor.{xor-twice}
-use Rattle.check_word.proofs.Step.{steps-shifted}
+use Rattle.check_word.proofs.Step.{steps-xor, steps-split, steps-lt}
 use Rattle.check_word.proofs.Fed.{fed, fed-append, add-bytes-fed}
-use Rattle.check_word.proofs.Line.{feed, feed-line, feed-differences, length-line}
+use Rattle.check_word.proofs.Line.{fedBits, fed-line, fed-differences, length-line}
 
 -- ---- right frames
 
@@ -40,14 +39,37 @@ put-right n before after put =
     ap (take (n + 2)) (put .1) ∙ take-at (framed body) (drop (n + 2) before) (n + 2) size in
     subst Right (sym front) (framed-right body)
 
+-- ---- bytes
+
+bytes-append : (xs ys : List ℕ) → Bytes xs → Bytes ys → Bytes (xs ++ ys)
+bytes-append [] ys bx by i = by i
+bytes-append (x ∷ xs) ys bx by zero = bx 0
+bytes-append (x ∷ xs) ys bx by (suc i) = bytes-append xs ys (λ j. bx (suc j)) by i
+
+fed-lt : (bs : List ℕ) (w : ℕ) → Bytes bs → w < 2 ^ 16 → fed 8 w bs < 2 ^ 16
+unfolding fed
+fed-lt [] w b h = h
+fed-lt (x ∷ xs) w b h = fed-lt xs (steps 8 (bitXor w x)) (λ i. b (suc i)) (steps-lt 8 (bitXor w x) (xor-lt 16 w x h (omega (arith, b 0))))
+
+low-first-bytes : (w : ℕ) → w < 2 ^ 16 → Bytes (lowFirst w)
+low-first-bytes w h zero = omega arith
+low-first-bytes w h (suc zero) = omega arith
+low-first-bytes w h (suc (suc i)) = omega arith
+
+pub framed-bytes : (body : List ℕ) → Bytes body → Bytes (framed body)
+unfolding checkWord
+framed-bytes body b =
+    let fits : checkWord body < 2 ^ 16 = rw add-bytes-fed (fed-lt body start b (lit< tt)) in
+    bytes-append body (lowFirst (checkWord body)) b (low-first-bytes (checkWord body) fits)
+
 -- ---- the word that they leave
 
 -- the low byte cancels itself, and the high byte moves down
 add-low : (w : ℕ) → steps 8 (bitXor w (w % 256)) ≡ w / 256
 add-low w =
-    ap (λ (x : ℕ). steps 8 (bitXor x (w % 256))) (sym (split w 8) ∙ sym (xor-shifted (w / 256) 8 (w % 256) (mod-lt w (pow-pos 8))))
-    ∙ ap (steps 8) (xor-twice (w / 256 * 2 ^ 8) (w % 256))
-    ∙ steps-shifted 8 (w / 256)
+    steps-xor 8 w (w % 256)
+    ∙ ap (λ (x : ℕ). bitXor x (steps 8 (w % 256))) (steps-split 8 w ∙ xor-comm (steps 8 (w % 256)) (w / 256))
+    ∙ xor-twice (w / 256) (steps 8 (w % 256))
 
 -- then the high byte cancels itself too
 fed-itself : (w : ℕ) → fed 8 w (lowFirst w) ≡ 0
@@ -63,7 +85,7 @@ right-zero f right =
     ∙ ap₂ (fed 8) (sym (add-bytes-fed start (take n f))) (right .ends) ∙ fed-itself word
 
 -- so where a damaged frame is right too, the differences alone leave 0
-pub differences-zero : (f g : List ℕ) → Damaged f g → Right g → feed 0 (differences (lineBits f) (lineBits g)) ≡ 0
+pub differences-zero : (f g : List ℕ) → Damaged f g → Right g → fedBits 0 (differences (lineBits f) (lineBits g)) ≡ 0
 differences-zero f g d right =
-    feed-differences (lineBits f) (lineBits g) start start (omega (arith, length-line f, length-line g, d .as-long))
-    ∙ ap₂ bitXor (sym (feed-line start f (d .sent)) ∙ right-zero f (d .right)) (sym (feed-line start g (d .received)) ∙ right-zero g right)
+    fed-differences (lineBits f) (lineBits g) start start (omega (arith, length-line f, length-line g, d .as-long))
+    ∙ ap₂ bitXor (sym (fed-line start f (d .sent-bytes)) ∙ right-zero f (d .right)) (sym (fed-line start g (d .received-bytes)) ∙ right-zero g right)

@@ -1,6 +1,6 @@
 -- The laws of specs/Laws.antt, each under its name.
 -- Assumes nothing.
-use mathlib.Core.Path.{_≡_, refl, sym, ap, _∙_}
+use mathlib.Core.Path.{_≡_, refl, ap, _∙_}
 use mathlib.Core.Bool.{Bool, true, false}
 use mathlib.Core.List.{List}
 use Prim.Native.Nat.{ℕ, _≤_}
@@ -8,15 +8,15 @@ use native.Mathlib.Omega.{arith}
 use lib.Bits.{bitXor}
 use lib.ListN.{length}
 use Rattle.promise.proofs.Promise.{equal-determined, decides-determined}
-use Rattle.check_word.specs.CheckWord.{start, addBytes, checkWord}
+use Rattle.check_word.specs.CheckWord.{start, addBytes, checkWord, sum}
 use Rattle.check_word.specs.Frame.{Right, Put}
 use Rattle.check_word.specs.Line.{lineBits, differences, onesAt, Shown, two, odd, burst}
 use Rattle.check_word.specs.Laws as laws
 use Rattle.check_word.proofs.Fed.{fed, add-bytes-fed, fed-sum, length-sum}
-use Rattle.check_word.proofs.Line.{feed, length-line, length-differences}
-use Rattle.check_word.proofs.Frame.{framed-right, put-right, differences-zero}
-use Rattle.check_word.proofs.Clear.{two-leave, burst-leaves}
-use Rattle.check_word.proofs.Parity.{odd-leave}
+use Rattle.check_word.proofs.Line.{fedBits, length-line, length-differences}
+use Rattle.check_word.proofs.Frame.{framed-right, framed-bytes, put-right, differences-zero}
+use Rattle.check_word.proofs.Clear.{two-never-zero, burst-never-zero}
+use Rattle.check_word.proofs.Parity.{odd-never-zero}
 
 pub NoBytes : laws.NoBytes
 unfolding checkWord addBytes
@@ -27,18 +27,18 @@ pub Sum : laws.Sum
 unfolding checkWord
 Sum a b c h k =
     simp add-bytes-fed
-    (fed-sum 8 (laws.sum a b) c 0 start (length-sum a b h ∙ k)
+    (fed-sum 8 (sum a b) c 0 start (length-sum a b h ∙ k)
     ∙ ap (λ (w : ℕ). bitXor w (fed 8 start c)) (fed-sum 8 a b start start h))
 
 -- differences of a kind that shows never leave 0
-shown-leave : (xs : List Bool) → length xs ≤ 2048 → Shown (onesAt 0 xs) → feed 0 xs ≡ 0 → ⊥
-shown-leave xs l (two s) e = two-leave xs 0 l s e
-shown-leave xs l (odd s) e = odd-leave xs 0 s e
-shown-leave xs l (burst s) e = burst-leaves xs 0 s e
+shown-never-zero : (xs : List Bool) → length xs ≤ 2048 → Shown (onesAt 0 xs) → fedBits 0 xs ≡ 0 → ⊥
+shown-never-zero xs l (two s) e = two-never-zero xs 0 l s e
+shown-never-zero xs l (odd s) e = odd-never-zero xs 0 s e
+shown-never-zero xs l (burst s) e = burst-never-zero xs 0 s e
 
 pub Damage : laws.Damage
 Damage f g d right =
-    shown-leave (differences (lineBits f) (lineBits g))
+    shown-never-zero (differences (lineBits f) (lineBits g))
     (omega (arith, length-differences (lineBits f) (lineBits g), length-line f)) (d .shown)
     (differences-zero f g d right)
 
@@ -48,6 +48,9 @@ DamageTold f g d false says = refl
 
 pub Framing : laws.Framing
 Framing = framed-right
+
+pub FramedBytes : laws.FramedBytes
+FramedBytes = framed-bytes
 
 pub PutFraming : laws.PutFraming
 PutFraming = put-right
@@ -60,7 +63,7 @@ IsRightDetermined frame = decides-determined (Right frame)
 
 pub PutCheckWordDetermined : laws.PutCheckWordDetermined
 unfolding Put
-PutCheckWordDetermined n before (true, x) (true, y) p q = ap (λ (after : List ℕ). (true, after)) (p .1 ∙ sym (q .1))
+PutCheckWordDetermined n before (true, x) (true, y) p q = cc
 PutCheckWordDetermined n before (true, x) (false, y) p q = absurd (omega arith)
 PutCheckWordDetermined n before (false, x) (true, y) p q = absurd (omega arith)
-PutCheckWordDetermined n before (false, x) (false, y) p q = ap (λ (after : List ℕ). (false, after)) (p .1 ∙ sym (q .1))
+PutCheckWordDetermined n before (false, x) (false, y) p q = cc

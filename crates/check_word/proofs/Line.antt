@@ -10,17 +10,16 @@ use lib.Arith.{lt-one}
 use lib.Bits.{bitXor, xor-comm, xor-zero-r, xor-shifted}
 use lib.ListN.{length, length-append, length-map}
 use lib.Pow.{shr-lt}
-use Rattle.check_word.specs.CheckWord.{lowBit, step, steps}
+use Rattle.check_word.specs.CheckWord.{lowBit, step, steps, sum}
 use Rattle.check_word.specs.Frame.{Bytes}
 use Rattle.check_word.specs.Line.{bits, lineBits, differences}
-use Rattle.check_word.specs.Laws.{sum}
 use Rattle.check_word.proofs.Xor.{digit, digit-lt, digit-xor, halves, xor-assoc}
 use Rattle.check_word.proofs.Step.{step-xor, step-double}
 use Rattle.check_word.proofs.Fed.{fed, fed-append, fed-sum}
 
 -- the word w after the bits
-abbrev pub feed : ℕ → List Bool → ℕ
-feed w xs = fed 1 w (map digit xs)
+abbrev pub fedBits : ℕ → List Bool → ℕ
+fedBits w xs = fed 1 w (map digit xs)
 
 -- ---- byte by byte is bit by bit
 
@@ -34,19 +33,19 @@ step-in w b =
     ∙ step-xor (bitXor w d) (b / 2 * 2)
     ∙ ap (bitXor (step (bitXor w d))) (step-double (b / 2))
 
-feed-bits : (n w b : ℕ) → b < 2 ^ n → feed w (bits n b) ≡ steps n (bitXor w b)
+fed-number : (n w b : ℕ) → b < 2 ^ n → fedBits w (bits n b) ≡ steps n (bitXor w b)
 unfolding fed bits steps
-feed-bits zero w b h = sym (ap (bitXor w) (lt-one h) ∙ xor-zero-r w)
-feed-bits (suc n) w b h =
-    feed-bits n (step (bitXor w (digit (lowBit b)))) (b / 2) (shr-lt n 1 (rw add-one h))
+fed-number zero w b h = sym (ap (bitXor w) (lt-one h) ∙ xor-zero-r w)
+fed-number (suc n) w b h =
+    fed-number n (step (bitXor w (digit (lowBit b)))) (b / 2) (shr-lt n 1 (rw add-one h))
     ∙ ap (steps n) (sym (step-in w b))
 
-pub feed-line : (w : ℕ) (bs : List ℕ) → Bytes bs → fed 8 w bs ≡ feed w (lineBits bs)
+pub fed-line : (w : ℕ) (bs : List ℕ) → Bytes bs → fed 8 w bs ≡ fedBits w (lineBits bs)
 unfolding fed lineBits
-feed-line w [] h = refl
-feed-line w (b ∷ bs) h =
-    feed-line (steps 8 (bitXor w b)) bs (λ i. h (suc i))
-    ∙ ap (λ (x : ℕ). feed x (lineBits bs)) (sym (feed-bits 8 w b (h 0)))
+fed-line w [] h = refl
+fed-line w (b ∷ bs) h =
+    fed-line (steps 8 (bitXor w b)) bs (λ i. h (suc i))
+    ∙ ap (λ (x : ℕ). fedBits x (lineBits bs)) (sym (fed-number 8 w b (h 0)))
     ∙ sym (ap (fed 1 w) (map-append digit (bits 8 b) (lineBits bs)) ∙ fed-append 1 w (map digit (bits 8 b)) (map digit (lineBits bs)))
 
 -- ---- two words fed with two runs of bits differ as a word fed with the differences
@@ -57,9 +56,9 @@ digits-differ [] ys = refl
 digits-differ (x ∷ xs) [] = refl
 digits-differ (x ∷ xs) (y ∷ ys) = ap₂ (λ (z : ℕ) (zs : List ℕ). z ∷ zs) (digit-xor x y) (digits-differ xs ys)
 
-pub feed-differences : (xs ys : List Bool) (v w : ℕ) → length xs ≡ length ys
-    → feed (bitXor v w) (differences xs ys) ≡ bitXor (feed v xs) (feed w ys)
-feed-differences xs ys v w h =
+pub fed-differences : (xs ys : List Bool) (v w : ℕ) → length xs ≡ length ys
+    → fedBits (bitXor v w) (differences xs ys) ≡ bitXor (fedBits v xs) (fedBits w ys)
+fed-differences xs ys v w h =
     ap (fed 1 (bitXor v w)) (digits-differ xs ys)
     ∙ fed-sum 1 (map digit xs) (map digit ys) v w (length-map xs digit ∙ h ∙ sym (length-map ys digit))
 

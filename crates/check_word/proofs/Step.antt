@@ -14,27 +14,27 @@ use Rattle.check_word.proofs.Xor.{digit, digit-low, low-xor, half-xor, 
 
 -- ---- additive
 
--- what a correction puts in
-abbrev pub put : Bool → ℕ
-put true = polynomial
-put false = 0
+-- what is exclusive-ored in
+abbrev pub correction : Bool → ℕ
+correction true = polynomial
+correction false = 0
 
-put-xor : (x y : Bool) → put (xor x y) ≡ bitXor (put x) (put y)
+correction-xor : (x y : Bool) → correction (xor x y) ≡ bitXor (correction x) (correction y)
 unfolding xor
-put-xor true true = refl
-put-xor true false = refl
-put-xor false true = refl
-put-xor false false = refl
+correction-xor true true = refl
+correction-xor true false = refl
+correction-xor false true = refl
+correction-xor false false = refl
 
-pub corrected-put : (x : Bool) (w : ℕ) → corrected x w ≡ bitXor w (put x)
+pub corrected-is : (x : Bool) (w : ℕ) → corrected x w ≡ bitXor w (correction x)
 unfolding corrected
-corrected-put true w = refl
-corrected-put false w = sym (xor-zero-r w)
+corrected-is true w = refl
+corrected-is false w = sym (xor-zero-r w)
 
 pub step-xor : (a b : ℕ) → step (bitXor a b) ≡ bitXor (step a) (step b)
 unfolding step
 step-xor a b =
-    simp (corrected-put, low-xor, half-xor, put-xor) (xor-regroup (a / 2) (b / 2) (put (lowBit a)) (put (lowBit b)))
+    simp (corrected-is, low-xor, half-xor, correction-xor) (xor-regroup (a / 2) (b / 2) (correction (lowBit a)) (correction (lowBit b)))
 
 pub steps-xor : (n a b : ℕ) → steps n (bitXor a b) ≡ bitXor (steps n a) (steps n b)
 unfolding steps
@@ -72,6 +72,11 @@ corrected-lt false h k = omega arith
 pub step-lt : (w : ℕ) → w < 2 ^ 16 → step w < 2 ^ 16
 unfolding step
 step-lt w h = corrected-lt (lowBit w) (w / 2) (omega arith)
+
+pub steps-lt : (n w : ℕ) → w < 2 ^ 16 → steps n w < 2 ^ 16
+unfolding steps
+steps-lt zero w h = h
+steps-lt (suc n) w h = steps-lt n (step w) (step-lt w h)
 
 -- a correction sets the top bit
 top-set : (h : ℕ) → h < 2 ^ 15 → 2 ^ 15 ≤ bitXor h polynomial

@@ -1,4 +1,5 @@
--- The damage law does not speak of nothing: damage of each kind to a frame of the manual.
+-- The damage law does not speak of nothing, and does not hold of more: damage of each kind to a frame of the manual, and
+-- four flips over 17 neighbouring line bits that leave a right check word.
 -- Assumes nothing.
 use mathlib.Core.Path.{_≡_, refl}
 use mathlib.Core.Bool.{true, xor, and-eq-true-iff}
@@ -28,14 +29,16 @@ request-right = record { enough = omega arith; ends = refl }
 
 damaged : (g : List ℕ) → areBytes g ≡ true → length g ≡ 8 → Shown (differAt request g) → Damaged request g
 damaged g b l s = record {
-  sent = bytes-by request refl;
+  sent-bytes = bytes-by request refl;
   at-least = omega arith;
   at-most = omega arith;
   right = request-right;
-  received = bytes-by g b;
+  received-bytes = bytes-by g b;
   as-long = l;
   shown = s;
 }
+
+-- ---- shown
 
 -- the first line bit and the last
 two-flips : Damaged request (0x15 ∷ 0x03 ∷ 0x00 ∷ 0x01 ∷ 0x00 ∷ 0x02 ∷ 0x97 ∷ 0x8e ∷ [])
@@ -58,3 +61,16 @@ four-places (suc (suc (suc (suc i)))) h = absurd (omega arith)
 four-flips : Damaged request (0x14 ∷ 0x03 ∷ 0x00 ∷ 0x01 ∷ 0x00 ∷ 0x02 ∷ 0x97 ∷ 0xfe ∷ [])
 unfolding xor bits lineBits differences onesAt
 four-flips = damaged _ refl refl (burst (record { some = omega arith; first = 60; inside = four-places }))
+
+-- ---- not shown
+
+abbrev unseen : List ℕ
+unseen = 0x17 ∷ 0x43 ∷ 0x01 ∷ 0x01 ∷ 0x00 ∷ 0x02 ∷ 0x97 ∷ 0x0e ∷ []
+
+unseen-places : differAt request unseen ≡ 0 ∷ 1 ∷ 14 ∷ 16 ∷ []
+unfolding xor bits lineBits differences onesAt
+unseen-places = refl
+
+unseen-right : Right unseen
+unfolding checkWord addBytes addByte steps step corrected
+unseen-right = record { enough = omega arith; ends = refl }

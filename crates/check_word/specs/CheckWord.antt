@@ -43,3 +43,9 @@ addBytes w (b ∷ bs) = addBytes (addByte w b) bs
 -- the check word of the bytes
 unfoldable pub checkWord : List ℕ → ℕ
 checkWord bytes = addBytes start bytes
+
+-- byte by byte, the exclusive-or of two messages, as far as both go
+unfoldable pub sum : List ℕ → List ℕ → List ℕ
+sum [] ys = []
+sum (x ∷ xs) [] = []
+sum (x ∷ xs) (y ∷ ys) = bitXor x y ∷ sum xs ys

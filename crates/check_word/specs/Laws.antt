@@ -2,20 +2,14 @@
 -- Assumes nothing.
 use mathlib.Core.Path.{_≡_}
 use mathlib.Core.Bool.{Bool, true, false}
-use mathlib.Core.List.{List, [], _∷_}
+use mathlib.Core.List.{List, []}
 use Prim.Native.Nat.{ℕ, _+_}
 use lib.Bits.{bitXor}
 use lib.ListN.{length, take}
 use Rattle.promise.specs.Promise.{Determined, Decides}
-use Rattle.check_word.specs.CheckWord.{checkWord}
-use Rattle.check_word.specs.Frame.{framed, Right, Put}
+use Rattle.check_word.specs.CheckWord.{checkWord, sum}
+use Rattle.check_word.specs.Frame.{Bytes, framed, Right, Put}
 use Rattle.check_word.specs.Line.{Damaged}
-
--- byte by byte, the exclusive-or of two messages
-unfoldable pub sum : List ℕ → List ℕ → List ℕ
-sum [] ys = []
-sum (x ∷ xs) [] = []
-sum (x ∷ xs) (y ∷ ys) = bitXor x y ∷ sum xs ys
 
 -- the check word of no bytes is FFFF hex
 abbrev pub NoBytes : Type 0
@@ -34,11 +28,15 @@ Damage = (f g : List ℕ) → Damaged f g → Right g → ⊥
 abbrev pub DamageTold : Type 0
 DamageTold = (f g : List ℕ) → Damaged f g → (r : Bool) → Decides (Right g) r → r ≡ false
 
--- a body with its check word behind it has a right check word ..
+-- a body with its check word behind it has a right check word
 abbrev pub Framing : Type 0
 Framing = (body : List ℕ) → Right (framed body)
 
--- .. and so have the first n + 2 bytes of a buffer once the check word was put behind the first n
+-- bytes with their check word behind them are bytes
+abbrev pub FramedBytes : Type 0
+FramedBytes = (body : List ℕ) → Bytes body → Bytes (framed body)
+
+-- once the check word was put behind the first n bytes of a buffer, the first n + 2 have a right check word
 abbrev pub PutFraming : Type 0
 PutFraming = (n : ℕ) (before after : List ℕ) → Put n before true after → Right (take (n + 2) after)
 

@@ -18,7 +18,7 @@ unfoldable pub lineBits : List ℕ → List Bool
 lineBits [] = []
 lineBits (b ∷ bs) = bits 8 b ++ lineBits bs
 
--- bit by bit, whether two runs of bits differ
+-- bit by bit, as far as both go, whether two runs of bits differ
 unfoldable pub differences : List Bool → List Bool → List Bool
 differences [] ys = []
 differences (x ∷ xs) [] = []
@@ -42,12 +42,12 @@ ExactlyTwo places = length places ≡ 2
 abbrev pub OddInNumber : List ℕ → Type 0
 OddInNumber places = length places % 2 ≡ 1
 
--- so many neighbouring line bits
+-- how many neighbouring line bits a window has
 abbrev pub window : ℕ
 window = 16
 
--- any number of flips, at least one, inside 16 neighbouring line bits: those from some first one on, which may run past
--- the frame's end
+-- any number of flips, at least one, inside 16 neighbouring line bits: the places first to first + 15, of which some may
+-- lie past the frame's end
 pub record InsideWindow (places : List ℕ) : Type 0 where
   pub some : 1 ≤ length places
   pub first : ℕ
@@ -61,10 +61,10 @@ pub data Shown (places : List ℕ) : Type 0 where
 
 -- a frame f with a right check word was sent, and g was received, as long as f and damaged in one of the three kinds
 pub record Damaged (f g : List ℕ) : Type 0 where
-  pub sent : Bytes f
+  pub sent-bytes : Bytes f
   pub at-least : shortest ≤ length f
   pub at-most : length f ≤ longest
   pub right : Right f
-  pub received : Bytes g
+  pub received-bytes : Bytes g
   pub as-long : length g ≡ length f
   pub shown : Shown (differAt f g)

@@ -262,7 +262,7 @@ const TABLE: [u16; 256] = [
 ];
 
 // Entry i is i put through the eight steps.
-pub fn entry(i: u8) -> u16
+pub(crate) fn entry(i: u8) -> u16
     ensures { λ r. ⌜ r ≡ steps 8 i ⌝ }
 {
     TABLE[i as usize]

@@ -1,4 +1,4 @@
--- Promises that determine the answer.
+-- Promises that determine the answer, and what a test of the code answers.
 -- Assumes nothing.
 use mathlib.Core.Path.{_≡_, refl, sym, _∙_}
 use mathlib.Core.Bool.{Bool, true, false, false≢true}

@@ -1,1 +1,1 @@
-// What every contract of this repository is stated with: definitions in specs/, their laws in proofs/, and no code.
+// What laws on answers, and contracts that answer yes or no, are stated with: definitions and their lemmas, no code.

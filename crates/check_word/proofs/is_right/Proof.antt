@@ -2,7 +2,7 @@
 -- Assumes nothing.
 use mathlib.Core.Path.{_≡_, sym, ap, ap₂, _∙_}
 use mathlib.Core.List.{List, [], _∷_}
-use Prim.Native.Nat.{ℕ, suc, _+_, _-_, _/_, _%_, _≤_}
+use Prim.Native.Nat.{ℕ, suc, _+_, _-_, _/_, _%_, _≤_, _<_}
 use native.Mathlib.Numerals.{add-one}
 use native.Mathlib.Omega.{arith}
 use lib.ListN.{length, take, drop, getD, drop-of-length-le}
@@ -18,10 +18,10 @@ use Rattle.check_word.proofs.is_right.Tie as tie
 -- the last two elements of a list, one by one
 last-two : (f : List ℕ) (n : ℕ) → n + 2 ≡ length f → drop n f ≡ getD f n 0 ∷ getD f (n + 1) 0 ∷ []
 last-two f n h =
-    drop-cons f n 0 (omega arith)
-    ∙ ap (λ (l : List ℕ). getD f n 0 ∷ l)
-    (ap (λ (k : ℕ). drop k f) (sym (add-one n)) ∙ drop-cons f (n + 1) 0 (omega arith)
-    ∙ ap (λ (l : List ℕ). getD f (n + 1) 0 ∷ l) (drop-of-length-le f {i = suc (n + 1)} (omega arith)))
+    let first : n < length f = omega arith in
+    let second : suc n < length f = omega arith in
+    let none : length f ≤ suc (suc n) = omega arith in
+    rw (add-one, drop-cons f n 0, drop-cons f (suc n) 0, drop-of-length-le)
 
 to-right : (f : List ℕ) (w : ℕ) → 2 ≤ length f → w ≡ checkWord (take (length f - 2) f)
     → getD f (length f - 2) 0 ≡ w % 256 → getD f (length f - 2 + 1) 0 ≡ w / 256 → Right f
