@@ -29,8 +29,8 @@ mixed-lt : (w : ℕ) (x : Bool) → w < 2 ^ 16 → bitXor w (digit x) < 2 ^ 16
 mixed-lt w x h = xor-lt 16 w (digit x) h (omega (arith, digit-lt x))
 
 -- one bit fed: where what is left fits n bits, what was there fits one bit more
-fed-lt : (n w : ℕ) (x : Bool) → n ≤ 15 → w < 2 ^ 16 → step (bitXor w (digit x)) < 2 ^ n → w < 2 ^ suc n
-fed-lt n w x l h s =
+bit-fed-lt : (n w : ℕ) (x : Bool) → n ≤ 15 → w < 2 ^ 16 → step (bitXor w (digit x)) < 2 ^ n → w < 2 ^ suc n
+bit-fed-lt n w x l h s =
     let mixed = bitXor w (digit x) in
     let shifted : step mixed * 2 ≡ mixed = step-clear mixed (mixed-lt w x h) (omega (arith, pow-mono l)) in
     let fits : mixed < 2 ^ suc n = omega (arith, pow-suc 2 n) in
@@ -53,9 +53,9 @@ cleared-lt (false ∷ xs) k zero w l b h e =
 cleared-lt (x ∷ xs) k (suc n) w l b h e =
     let mixed = bitXor w (digit x) in
     let rest : Below (suc k + n) (onesAt (suc k) xs) = λ i g. omega (arith, below-rest x xs k (k + suc n) b i g) in
-    fed-lt n w x (omega arith) h (cleared-lt xs (suc k) n (step mixed) (omega arith) rest (step-lt mixed (mixed-lt w x h)) e)
+    bit-fed-lt n w x (omega arith) h (cleared-lt xs (suc k) n (step mixed) (omega arith) rest (step-lt mixed (mixed-lt w x h)) e)
 
--- ---- two 1 bits: after the first the word is the polynomial, and the second-too-high would have to find it below 2
+-- ---- two 1 bits: after the first the word is the polynomial, and the second would have to find it below 2
 
 -- for n steps the word does not fall below 2
 aboveOne : ℕ → ℕ → Bool
