@@ -10,6 +10,7 @@ use lib.Dec.{lit<}
 use lib.ListN.{length, take, drop, length-append, take-append-drop}
 use lib.Seq.{take-at, drop-at, length-take-le}
 use Rattle.check_word.specs.CheckWord.{start, corrected, step, steps, checkWord}
+use Rattle.promise.specs.Promise.{Attempt}
 use Rattle.check_word.specs.Frame.{Bytes, lowFirst, framed, Right, Put}
 use Rattle.check_word.specs.Line.{lineBits, differences, Damaged}
 use Rattle.check_word.proofs.Xor.{xor-twice}
@@ -30,7 +31,7 @@ framed-right body =
     }
 
 pub put-right : (n : ℕ) (before after : List ℕ) → Put n before true after → Right (take (n + 2) after)
-unfolding Put
+unfolding Attempt
 put-right n before after put =
     let body = take n before in
     let size : length (framed body) ≡ n + 2 =

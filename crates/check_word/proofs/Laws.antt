@@ -2,14 +2,14 @@
 -- Assumes nothing.
 use mathlib.Core.Path.{_≡_, refl, ap, _∙_}
 use mathlib.Core.Bool.{Bool, true, false}
-use mathlib.Core.List.{List}
-use Prim.Native.Nat.{ℕ, _≤_}
+use mathlib.Core.List.{List, _++_}
+use Prim.Native.Nat.{ℕ, _+_, _≤_}
 use native.Mathlib.Omega.{arith}
 use lib.Bits.{bitXor}
-use lib.ListN.{length}
-use Rattle.promise.proofs.Promise.{equal-determined, decides-determined}
+use lib.ListN.{length, take, drop}
+use Rattle.promise.proofs.Promise.{equal-determined, decides-determined, attempt-determined}
 use Rattle.check_word.specs.CheckWord.{start, addBytes, checkWord, sum}
-use Rattle.check_word.specs.Frame.{Right, Put}
+use Rattle.check_word.specs.Frame.{framed, Right}
 use Rattle.check_word.specs.Line.{lineBits, differences, onesAt, Shown, two, odd, burst}
 use Rattle.check_word.specs.Laws as laws
 use Rattle.check_word.proofs.Fed.{fed, add-bytes-fed, fed-sum, length-sum}
@@ -62,8 +62,5 @@ pub IsRightDetermined : laws.IsRightDetermined
 IsRightDetermined frame = decides-determined (Right frame)
 
 pub PutCheckWordDetermined : laws.PutCheckWordDetermined
-unfolding Put
-PutCheckWordDetermined n before (true, x) (true, y) p q = cc
-PutCheckWordDetermined n before (true, x) (false, y) p q = absurd (omega arith)
-PutCheckWordDetermined n before (false, x) (true, y) p q = absurd (omega arith)
-PutCheckWordDetermined n before (false, x) (false, y) p q = cc
+PutCheckWordDetermined n before =
+    attempt-determined _ _ before (λ room. equal-determined (framed (take n before) ++ drop (n + 2) before))

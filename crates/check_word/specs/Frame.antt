@@ -1,10 +1,11 @@
 -- Frames, as far as the check word goes: a frame ends in the check word of the rest, low byte first.
 -- Assumes nothing.
 use mathlib.Core.Path.{_≡_}
-use mathlib.Core.Bool.{Bool, true, false}
+use mathlib.Core.Bool.{Bool}
 use mathlib.Core.List.{List, [], _∷_, _++_}
 use Prim.Native.Nat.{ℕ, _+_, _-_, _/_, _%_, _≤_, _<_}
 use lib.ListN.{length, take, drop, getD}
+use Rattle.promise.specs.Promise.{Attempt}
 use Rattle.check_word.specs.CheckWord.{checkWord}
 
 -- the fewest and the most bytes of a frame
@@ -31,8 +32,8 @@ pub record Right (frame : List ℕ) : Type 0 where
   pub enough : 2 ≤ length frame
   pub ends : drop (length frame - 2) frame ≡ lowFirst (checkWord (take (length frame - 2) frame))
 
--- The check word put behind the first n bytes of a buffer, by the answer. Yes: there is room, and it stands there, the
--- bytes before and past it as they were. No: there is no room, and the whole buffer is as it was.
-unfoldable pub Put : ℕ → List ℕ → Bool → List ℕ → Type 0
-Put n before true after = (n + 2 ≤ length before) × (after ≡ framed (take n before) ++ drop (n + 2) before)
-Put n before false after = (length before < n + 2) × (after ≡ before)
+-- The check word put behind the first n bytes of a buffer, which is possible where there is room: it stands there, and the
+-- bytes before and past it are as they were.
+abbrev pub Put : ℕ → List ℕ → Bool → List ℕ → Type 0
+Put n before =
+    Attempt (n + 2 ≤ length before) (λ after. after ≡ framed (take n before) ++ drop (n + 2) before) before

@@ -1,8 +1,8 @@
 -- Promises that determine the answer, and what a test of the code answers.
 -- Assumes nothing.
 use mathlib.Core.Path.{_≡_, refl, sym, _∙_}
-use mathlib.Core.Bool.{Bool, true, false, false≢true}
-use Rattle.promise.specs.Promise.{Determined, Decides}
+use mathlib.Core.Bool.{Bool, true, false, not, false≢true}
+use Rattle.promise.specs.Promise.{Determined, Decides, Attempt}
 
 -- one that names the answer
 pub equal-determined : {Answer : Type 0} (x : Answer) → Determined (λ (a : Answer). a ≡ x)
@@ -15,8 +15,37 @@ decides-determined Fact true false p q = absurd (q p)
 decides-determined Fact false true p q = absurd (p q)
 decides-determined Fact false false p q = refl
 
+-- an attempt, where what is done determines the content
+pub attempt-determined : {Content : Type 0} (Possible : Type 0) (Done : Content → Type 0) (before : Content)
+    → (Possible → Determined Done) → Determined (λ (a : Bool × Content). Attempt Possible Done before (a .0) (a .1))
+unfolding Attempt
+attempt-determined Possible Done before one (true, x) (true, y) p q = cc (one (p .0) x y (p .1) (q .1))
+attempt-determined Possible Done before one (true, x) (false, y) p q = absurd (q .0 (p .0))
+attempt-determined Possible Done before one (false, x) (true, y) p q = absurd (p .0 (q .0))
+attempt-determined Possible Done before one (false, x) (false, y) p q = cc (p .1, q .1)
+
+-- ---- an attempt, said otherwise: possible in the same cases, and what is done is done in other words
+
+pub attempt-map : {Content : Type 0} (P Q : Type 0) (D E : Content → Type 0) (before : Content) (r : Bool) (after : Content)
+    → (P → Q) → (Q → P) → (D after → E after) → Attempt P D before r after → Attempt Q E before r after
+unfolding Attempt
+attempt-map P Q D E before true after to back done p = (to (p .0), done (p .1))
+attempt-map P Q D E before false after to back done p = (λ q. p .0 (back q), p .1)
+
 -- ---- what a test of the code answers
 
 pub decides-by : (Fact : Type 0) (t : Bool) → (t ≡ true → Fact) → (Fact → t ≡ true) → Decides Fact t
 decides-by Fact true holds back = holds refl
 decides-by Fact false holds back = λ fact. false≢true (back fact)
+
+-- ---- an attempt behind a test `if !t`, which says whether it is possible
+
+pub passed : (Possible : Type 0) (t : Bool) → Decides Possible t → not t ≡ false → Possible
+passed Possible true says e = says
+passed Possible false says e = absurd (false≢true (sym e))
+
+pub refused : {Content : Type 0} (Possible : Type 0) (Done : Content → Type 0) (before : Content) (t : Bool) → Decides Possible t
+    → not t ≡ true → Attempt Possible Done before false before
+unfolding Attempt
+refused Possible Done before true says e = absurd (false≢true e)
+refused Possible Done before false says e = (says, refl)

@@ -12,3 +12,8 @@ Determined {Answer} Allowed = (a b : Answer) → Allowed a → Allowed b → a �
 abbrev pub Decides : Type 0 → Bool → Type 0
 Decides Fact true = Fact
 Decides Fact false = Fact → ⊥
+
+-- An attempt on lent memory, by the answer. Yes: it was possible, and it is done. No: it was not, and nothing changed.
+unfoldable pub Attempt : {Content : Type 0} → Type 0 → (Content → Type 0) → Content → Bool → Content → Type 0
+Attempt Possible Done before true after = Possible × Done after
+Attempt Possible Done before false after = (Possible → ⊥) × (after ≡ before)

@@ -7,8 +7,9 @@ use native.Mathlib.Numerals.{add-one}
 use native.Mathlib.Omega.{arith}
 use lib.ListN.{length, take, drop, set, length-set}
 use lib.Seq.{length-take-le, sets-eq}
+use Rattle.promise.specs.Promise.{Attempt}
 use Rattle.check_word.specs.CheckWord.{checkWord}
-use Rattle.check_word.specs.Frame.{lowFirst, framed, Put}
+use Rattle.check_word.specs.Frame.{lowFirst, framed}
 use borrow.Author.Needs.{needs}
 use Rattle.check_word.proofs.put_check_word.Statement.{statement}
 use Rattle.check_word.proofs.put_check_word.Tie as tie
@@ -20,15 +21,15 @@ two-stored b n w h e =
     ∙ ap (λ (x : ℕ). take n b ++ lowFirst x ++ drop (n + 2) b) e
 
 returns : tie.Need-returns
-unfolding Put
-returns c = (omega arith, refl)
+unfolding Attempt
+returns c = (λ room. omega arith, refl)
 
 sub-if2 : tie.Need-sub-if2
 sub-if2 c = search needs
 
 returns-2 : tie.Need-returns-2
-unfolding Put
-returns-2 c = (omega arith, refl)
+unfolding Attempt
+returns-2 c = (λ room. omega arith, refl)
 
 slice-reshare-prefix-check-word : tie.Need-slice-reshare-prefix-check-word
 slice-reshare-prefix-check-word c = search needs
@@ -58,7 +59,7 @@ same-length : tie.Need-same-length
 same-length c = search needs
 
 returns-3 : tie.Need-returns-3
-unfolding Put
+unfolding Attempt
 returns-3 c =
     let at = c .before .before .before .before .before .args in (
       omega arith,
