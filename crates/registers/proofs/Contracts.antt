@@ -74,6 +74,14 @@ store-bits-back κs μs a b s t p q image first count =
     laws.BitsBack (a .1 .0) (a .1 .1 .0) (now (a .1 .1 .1 .0)) (now (a .0)) (now (s .0)) (now (b .1 .1 .1 .0)) (now (t .1 .1 .1 .0)) p
     (rw (image, first, count) q)
 
+store-bits-back-equal : (κs μs : _) (a b : _) (s t : _) → store-bits.Post κs a true s → pack-bits.Post μs b true t
+    → BitsPacked (a .1 .1 .0) (packedBit (now (a .1 .1 .1 .0))) (now (a .1 .1 .1 .0))
+    → now (s .0) ≡ now (b .0) → a .1 .0 ≡ b .1 .0 → a .1 .1 .0 ≡ b .1 .1 .0
+    → take (bytesForBits (a .1 .1 .0)) (now (t .1 .1 .1 .0)) ≡ now (a .1 .1 .1 .0)
+store-bits-back-equal κs μs a b s t p q packed image first count =
+    laws.PackedBitsBack (a .1 .0) (a .1 .1 .0) (now (a .1 .1 .1 .0)) (now (a .0)) (now (s .0)) (now (b .1 .1 .1 .0)) (now (t .1 .1 .1 .0)) packed p
+    (rw (image, first, count) q)
+
 store-words-back : (κs μs : _) (a b : _) (s t : _) → store-words.Post κs a true s → pack-words.Post μs b true t
     → FitIn byteBits (now (a .1 .1 .1 .0)) → now (s .0) ≡ now (b .0) → a .1 .0 ≡ b .1 .0 → a .1 .1 .0 ≡ b .1 .1 .0
     → take (bytesForWords (a .1 .1 .0)) (now (t .1 .1 .1 .0)) ≡ take (bytesForWords (a .1 .1 .0)) (now (a .1 .1 .1 .0))
@@ -89,6 +97,14 @@ pack-bits-only : (κs μs : _) (a b : _) (x y : Bool) (s t : _) → pack-bits.Po
     → _≡_ {A = Bool × List ℕ} (x, now (s .1 .1 .1 .0)) (y, now (t .1 .1 .1 .0))
 pack-bits-only κs μs a b x y s t p q long first count buffer same =
     laws.OnlyTheTouchedWords (now (a .0)) (now (b .0)) (a .1 .0) (a .1 .1 .0) (now (a .1 .1 .1 .0)) long same (x, now (s .1 .1 .1 .0)) (y, now (t .1 .1 .1 .0))
+    p (rw (first, count, buffer) q)
+
+pack-bits-only-bits : (κs μs : _) (a b : _) (x y : Bool) (s t : _) → pack-bits.Post κs a x s → pack-bits.Post μs b y t
+    → length (now (a .0)) ≡ length (now (b .0)) → a .1 .0 ≡ b .1 .0 → a .1 .1 .0 ≡ b .1 .1 .0 → now (a .1 .1 .1 .0) ≡ now (b .1 .1 .1 .0)
+    → ((n : ℕ) → n < a .1 .1 .0 → imageBit (now (a .0)) (a .1 .0 + n) ≡ imageBit (now (b .0)) (a .1 .0 + n))
+    → _≡_ {A = Bool × List ℕ} (x, now (s .1 .1 .1 .0)) (y, now (t .1 .1 .1 .0))
+pack-bits-only-bits κs μs a b x y s t p q long first count buffer same =
+    laws.OnlyTheBits (now (a .0)) (now (b .0)) (a .1 .0) (a .1 .1 .0) (now (a .1 .1 .1 .0)) long same (x, now (s .1 .1 .1 .0)) (y, now (t .1 .1 .1 .0))
     p (rw (first, count, buffer) q)
 
 pack-words-only : (κs μs : _) (a b : _) (x y : Bool) (s t : _) → pack-words.Post κs a x s → pack-words.Post μs b y t
@@ -117,7 +133,7 @@ store-words-only κs μs a b x y s t p q first count image ea eb same =
     laws.FurtherBytesIgnored (a .1 .0) (a .1 .1 .0) (now (a .1 .1 .1 .0)) (now (b .1 .1 .1 .0)) (now (a .0)) ea eb same (x, now (s .0)) (y, now (t .0))
     p (rw (first, count, image) q)
 
--- ---- no store changes a bit outside its run, whatever it answers
+-- ---- no store changes a bit or a word outside its run, whatever it answers
 
 store-bit-outside : (κs : _) (a : _) (r : Bool) (s : _) → store-bit.Post κs a r s
     → (k : ℕ) → Outside (a .1 .0) 1 k → imageBit (now (s .0)) k ≡ imageBit (now (a .0)) k
@@ -134,3 +150,20 @@ store-word-outside κs a r s p = laws.BitsBesideWords _ (a .1 .0) 1 _ (now (a .0
 store-words-outside : (κs : _) (a : _) (r : Bool) (s : _) → store-words.Post κs a r s
     → (k : ℕ) → Outside (a .1 .0 * wordBits) (a .1 .1 .0 * wordBits) k → imageBit (now (s .0)) k ≡ imageBit (now (a .0)) k
 store-words-outside κs a r s p = laws.BitsBesideWords _ (a .1 .0) (a .1 .1 .0) _ (now (a .0)) (now (s .0)) r p
+
+store-bit-beside : (κs : _) (a : _) (r : Bool) (s : _) → store-bit.Post κs a r s → FitIn wordBits (now (a .0))
+    → (k : ℕ) → ((p : ℕ) → p < wordBits → Outside (a .1 .0) 1 (k * wordBits + p)) → imageWord (now (s .0)) k ≡ imageWord (now (a .0)) k
+store-bit-beside κs a r s p fit = laws.WordsBesideBits _ (a .1 .0) 1 _ (now (a .0)) (now (s .0)) r fit p
+
+store-bits-beside : (κs : _) (a : _) (r : Bool) (s : _) → store-bits.Post κs a r s → FitIn wordBits (now (a .0))
+    → (k : ℕ) → ((p : ℕ) → p < wordBits → Outside (a .1 .0) (a .1 .1 .0) (k * wordBits + p))
+    → imageWord (now (s .0)) k ≡ imageWord (now (a .0)) k
+store-bits-beside κs a r s p fit = laws.WordsBesideBits _ (a .1 .0) (a .1 .1 .0) _ (now (a .0)) (now (s .0)) r fit p
+
+store-word-beside : (κs : _) (a : _) (r : Bool) (s : _) → store-word.Post κs a r s
+    → (k : ℕ) → Outside (a .1 .0) 1 k → imageWord (now (s .0)) k ≡ imageWord (now (a .0)) k
+store-word-beside κs a r s p = laws.WordsOutside _ (a .1 .0) 1 _ (now (a .0)) (now (s .0)) r p
+
+store-words-beside : (κs : _) (a : _) (r : Bool) (s : _) → store-words.Post κs a r s
+    → (k : ℕ) → Outside (a .1 .0) (a .1 .1 .0) k → imageWord (now (s .0)) k ≡ imageWord (now (a .0)) k
+store-words-beside κs a r s p = laws.WordsOutside _ (a .1 .0) (a .1 .1 .0) _ (now (a .0)) (now (s .0)) r p

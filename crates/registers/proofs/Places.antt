@@ -19,6 +19,6 @@ everywhere first count P inside outside k =
       | inl l ↦ outside k (inl l)
       | inr l ↦ elim (lt-or-le k (first + count)) [
         | inl m ↦ let e : first + (k - first) ≡ k = omega arith in rw e at (inside (k - first) (omega arith))
-        | inr m ↦ outside k (inr m)
+        | inr m ↦ outside k (inr (omega arith))
       ]
     ]
