@@ -38,14 +38,18 @@ pub decides-by : (Fact : Type 0) (t : Bool) → (t ≡ true → Fact) → (Fact 
 decides-by Fact true holds back = holds refl
 decides-by Fact false holds back = λ fact. false≢true (back fact)
 
--- ---- an attempt behind a test `if !t`, which says whether it is possible
+-- ---- behind a test `if !t`
 
-pub passed : (Possible : Type 0) (t : Bool) → Decides Possible t → not t ≡ false → Possible
-passed Possible true says e = says
-passed Possible false says e = absurd (false≢true (sym e))
+pub passed : (Fact : Type 0) (t : Bool) → Decides Fact t → not t ≡ false → Fact
+passed Fact true says e = says
+passed Fact false says e = absurd (false≢true (sym e))
 
+pub failed : (Fact : Type 0) (t : Bool) → Decides Fact t → not t ≡ true → Fact → ⊥
+failed Fact true says e = absurd (false≢true e)
+failed Fact false says e = says
+
+-- an attempt that the test found not possible
 pub refused : {Content : Type 0} (Possible : Type 0) (Done : Content → Type 0) (before : Content) (t : Bool) → Decides Possible t
     → not t ≡ true → Attempt Possible Done before false before
 unfolding Attempt
-refused Possible Done before true says e = absurd (false≢true e)
-refused Possible Done before false says e = (says, refl)
+refused Possible Done before t says e = (failed Possible t says e, refl)
