@@ -1,0 +1,59 @@
+-- Whether an area of a list, or a word of a run, is such, can be decided.
+-- Assumes nothing.
+use mathlib.Core.Path.{_≡_}
+use mathlib.Core.Logic.{Dec·and, Dec·not}
+use mathlib.Core.List.{List}
+use Prim.Native.Nat.{ℕ, zero, suc, _+_, _-_, _≤_, _<_}
+use native.Mathlib.Decide.{decLe, decLt, map-dec}
+use native.Mathlib.Omega.{arith}
+use lib.ListN.{length}
+use Rattle.areas.specs.declared.Access.{Access}
+use Rattle.areas.specs.declared.Access.the-variants.{ReadOnly}
+use Rattle.areas.specs.declared.Area.{Area}
+use Rattle.areas.specs.Holding.{Holds, areaAt, Addressable, InNoArea, OfAreaWith}
+use Rattle.areas.specs.Verdicts.{SomeWord, SomeWordInNoArea, SomeWordReadOnly}
+use Rattle.areas.proofs.Accesses.{decAccess}
+
+-- of the numbers below n, one is such, or none
+some-below : (n : ℕ) (Such : ℕ → Type 0) → ((i : ℕ) → Dec (Such i)) → Dec ((i : ℕ) × (i < n) × Such i)
+some-below zero Such told = no (λ some. omega (arith, some .1))
+some-below (suc n) Such told = one-more (some-below n Such told) (told n)
+  where
+    one-more : Dec ((i : ℕ) × (i < n) × Such i) → Dec (Such n) → Dec ((i : ℕ) × (i < suc n) × Such i)
+    one-more (yes (i, h, such)) last = yes (i, omega arith, such)
+    one-more (no none) (yes such) = yes (n, omega arith, such)
+    one-more (no none) (no not) = no (λ some. elim (decLe n (some .0)) [
+      | yes m ↦ let e : some .0 ≡ n = omega (arith, some .1) in not (rw e at (some .2))
+      | no m ↦ none (some .0, omega arith, some .2)
+    ])
+
+-- ---- some area
+
+decHolds : (area : Area) (word : ℕ) → Dec (Holds area word)
+decHolds area word = Dec·and (decLe (area .first) word) (decLt word (area .first + area .count))
+
+pub decAddressable : (areas : List Area) (word : ℕ) → Dec (Addressable areas word)
+decAddressable areas word = some-below (length areas) (λ i. Holds (areaAt areas i) word) (λ i. decHolds (areaAt areas i) word)
+
+decOfAreaWith : (access : Access) (areas : List Area) (word : ℕ) → Dec (OfAreaWith access areas word)
+decOfAreaWith access areas word =
+    some-below (length areas) (λ i. (areaAt areas i .access ≡ access) × Holds (areaAt areas i) word)
+    (λ i. Dec·and (decAccess (areaAt areas i .access) access) (decHolds (areaAt areas i) word))
+
+-- ---- some word of a run
+
+decSomeWord : (first count : ℕ) (Such : ℕ → Type 0) → ((word : ℕ) → Dec (Such word)) → Dec (SomeWord first count Such)
+decSomeWord first count Such told =
+    map-dec
+    (λ some. (first + some .0, (omega arith, omega (arith, some .1)), some .2))
+    (λ some. (some .0 - first, omega (arith, some .1 .0, some .1 .1), rw (back (some .0) (some .1 .0)) (some .2)))
+    (some-below count (λ n. Such (first + n)) (λ n. told (first + n)))
+  where
+    back : (word : ℕ) → first ≤ word → first + (word - first) ≡ word
+    back word h = omega arith
+
+pub decInNoArea : (areas : List Area) (first count : ℕ) → Dec (SomeWordInNoArea areas first count)
+decInNoArea areas first count = decSomeWord first count (InNoArea areas) (λ word. Dec·not (decAddressable areas word))
+
+pub decReadOnly : (areas : List Area) (first count : ℕ) → Dec (SomeWordReadOnly areas first count)
+decReadOnly areas first count = decSomeWord first count (OfAreaWith ReadOnly areas) (decOfAreaWith ReadOnly areas)

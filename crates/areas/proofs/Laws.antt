@@ -1,0 +1,110 @@
+-- The laws of the areas, each under the name that it has in specs/Laws.antt.
+-- Assumes nothing.
+use mathlib.Core.Path.{_≡_, refl}
+use mathlib.Core.Logic.{_↔_}
+use mathlib.Core.Bool.{true, false}
+use Prim.Native.Nat.{ℕ, _+_, _-_, _≤_, _<_}
+use native.Mathlib.Decide.{decLe}
+use native.Mathlib.Omega.{arith}
+use Rattle.promise.proofs.Promise.{decides-determined}
+use Rattle.areas.specs.declared.Access.the-variants.{ReadOnly}
+use Rattle.areas.specs.declared.Area.{Area}
+use Rattle.areas.specs.Holding.{Holds, endOf, areaAt, SomeArea}
+use Rattle.areas.specs.Laws as laws
+use Rattle.areas.proofs.Accesses.{not-both}
+use Rattle.areas.proofs.Across.{hole, no-earlier, no-hole}
+use Rattle.areas.proofs.Chain.{in-order-ascend, in-order-apart, rules-in-order}
+use Rattle.areas.proofs.Judging.{judged-determined, judged-exists, each-read-write, judged-map, some-area-map}
+
+-- ---- a list that keeps the rules
+
+pub OneAreaHolds : laws.OneAreaHolds
+OneAreaHolds words areas kept word i j h k p q =
+    elim (decLe i j) [
+      | yes l ↦ elim (decLe j i) [ yes m ↦ omega arith | no m ↦ absurd (kept .none-overlap i j (omega arith) k (word, p, q)) ]
+      | no l ↦ absurd (kept .none-overlap j i (omega arith) h (word, q, p))
+    ]
+
+pub OneAccess : laws.OneAccess
+OneAccess words areas kept word (i, h, (read, p)) (j, k, (write, q)) =
+    let e = OneAreaHolds words areas kept word i j h k p q in
+    not-both (areaAt areas j .access) (rw e at read) write
+
+pub MayTouch : laws.MayTouch
+MayTouch words areas = (
+  λ kept. (kept .at-most-sixteen, kept .none-empty, rules-in-order kept, kept .end-inside),
+  λ (few, some, order, inside). record {
+    at-most-sixteen = few;
+    none-empty = some;
+    ascend = in-order-ascend areas some order;
+    none-overlap = in-order-apart areas some order;
+    end-inside = inside;
+  },
+)
+
+pub WordInside : laws.WordInside
+WordInside words areas kept word (i, h, held) = omega (arith, held .1, kept .end-inside i h)
+
+pub RunInside : laws.RunInside
+RunInside words areas kept first count some whole =
+    elim (decLe (first + count) words) [
+      | yes h ↦ h
+      | no h ↦ absurd (whole (first + count - 1, (omega arith, omega arith), λ shown. omega (arith, WordInside words areas kept (first + count - 1) shown)))
+    ]
+
+pub RunAcross : laws.RunAcross
+RunAcross words areas kept i j first more l h from upto = (
+  λ whole k p q. elim (decLe (areaAt areas (k + 1) .first) (endOf (areaAt areas k))) [
+    | yes m ↦ omega (arith, rules-in-order kept k (k + 1) (omega arith) (omega arith))
+    | no m ↦ absurd (whole (endOf (areaAt areas k), within k p q m, hole areas (rules-in-order kept) k (omega arith) (omega arith)))
+  ],
+  λ touch none. none .2 (no-hole areas i j (none .0) l h touch (omega (arith, from .0, none .1 .0)) (omega (arith, upto .1, none .1 .1))),
+)
+  where
+    within : (k : ℕ) → i ≤ k → k < j → (areaAt areas (k + 1) .first ≤ endOf (areaAt areas k) → ⊥)
+        → (first ≤ endOf (areaAt areas k)) × (endOf (areaAt areas k) < first + (more + 1))
+    within k p q m = (
+      omega (arith, from .1, no-earlier areas (rules-in-order kept) i k p (omega arith) .1),
+      omega (arith, upto .0, no-earlier areas (rules-in-order kept) (k + 1) j (omega arith) h .0),
+    )
+
+pub ReadWriteMeans : laws.ReadWriteMeans
+ReadWriteMeans words areas kept first count = (
+  each-read-write areas first count,
+  λ each. (
+    λ none. let of = each (none .0) (none .1) in none .2 (of .0, of .1, of .2 .1),
+    λ some. OneAccess words areas kept (some .0) (some .2) (each (some .0) (some .1)),
+  ),
+)
+
+-- ---- the verdict, whatever the list
+
+pub VerdictExists : laws.VerdictExists
+VerdictExists = judged-exists
+
+pub JudgedDetermined : laws.JudgedDetermined
+JudgedDetermined = judged-determined
+
+pub DecidedByTheWords : laws.DecidedByTheWords
+DecidedByTheWords a b first count agree x y p q = judged-determined b first count x y (judged-map a b first count agree x p) q
+
+pub OrderIgnored : laws.OrderIgnored
+OrderIgnored a b first count in-b in-a =
+    DecidedByTheWords a b first count (λ word among. (both (λ area. Holds area word), both (λ area. (area .access ≡ ReadOnly) × Holds area word)))
+  where
+    both : (Such : Area → Type 0) → SomeArea a Such ↔ SomeArea b Such
+    both Such = (some-area-map a b Such in-b, some-area-map b a Such in-a)
+
+-- ---- a list by value
+
+pub OverSixteen : laws.OverSixteen
+OverSixteen list words true over kept = absurd (omega (arith, kept .0))
+OverSixteen list words false over kept = refl
+
+-- ---- the promise of each public function determines its answer
+
+pub KeepsRulesDetermined : laws.KeepsRulesDetermined
+KeepsRulesDetermined list words = decides-determined _
+
+pub JudgeDetermined : laws.JudgeDetermined
+JudgeDetermined list first count = judged-determined _ first count

@@ -1,0 +1,97 @@
+-- The laws of the areas, each proved under its name in proofs/Laws.antt.
+-- Assumes nothing.
+use mathlib.Core.Path.{_≡_}
+use mathlib.Core.Logic.{_↔_}
+use mathlib.Core.Bool.{Bool, false}
+use mathlib.Core.List.{List}
+use Prim.Native.Nat.{ℕ, _+_, _≤_, _<_}
+use lib.ListN.{length}
+use Rattle.promise.specs.Promise.{Determined}
+use Rattle.areas.specs.declared.Access.the-variants.{ReadOnly, ReadWrite}
+use Rattle.areas.specs.declared.Area.{Area}
+use Rattle.areas.specs.declared.AreaList.{AreaList}
+use Rattle.areas.specs.declared.Verdict.{Verdict}
+use Rattle.areas.specs.declared.Verdict.the-variants.{AllReadWrite}
+use Rattle.areas.specs.Holding.{Among, Holds, endOf, areaAt, SomeArea, EachArea, EachTwo, Addressable, OfAreaWith}
+use Rattle.areas.specs.Rules.{mostAreas, AtMostSixteen, NoneEmpty, EndInside, RulesKept, Touch}
+use Rattle.areas.specs.Verdicts.{SomeWordInNoArea, Judged}
+use Rattle.areas.specs.Calls.{KeepsRules, Judge}
+
+-- ---- a list that keeps the rules
+
+-- at most one area holds a word ..
+abbrev pub OneAreaHolds : Type 0
+OneAreaHolds = (words : ℕ) (areas : List Area) → RulesKept words areas → (word i j : ℕ) → i < length areas → j < length areas
+    → Holds (areaAt areas i) word → Holds (areaAt areas j) word → i ≡ j
+
+-- .. so that no word is of a read-only area and of a read-write one
+abbrev pub OneAccess : Type 0
+OneAccess = (words : ℕ) (areas : List Area) → RulesKept words areas → (word : ℕ)
+    → OfAreaWith ReadOnly areas word → OfAreaWith ReadWrite areas word → ⊥
+
+-- two may touch: that areas ascend and don't overlap says no more than that each ends where a later one starts, or before
+abbrev pub MayTouch : Type 0
+MayTouch = (words : ℕ) (areas : List Area)
+    → (RulesKept words areas
+    ↔ (AtMostSixteen areas × NoneEmpty areas × EachTwo areas (λ a b. endOf a ≤ b .first) × EndInside words areas))
+
+-- what is addressable lies inside the image: a word ..
+abbrev pub WordInside : Type 0
+WordInside = (words : ℕ) (areas : List Area) → RulesKept words areas → (word : ℕ) → Addressable areas word → word < words
+
+-- .. and a run, if none of its words is in no area
+abbrev pub RunInside : Type 0
+RunInside = (words : ℕ) (areas : List Area) → RulesKept words areas → (first count : ℕ) → 1 ≤ count
+    → (SomeWordInNoArea areas first count → ⊥) → first + count ≤ words
+
+-- A run whose first word is in area i and whose last word is in area j: none of its words is in no area just if each area from i
+-- on touches the next, up to j. So it may run across areas that touch, and its first and last word say nothing of a hole between.
+abbrev pub RunAcross : Type 0
+RunAcross = (words : ℕ) (areas : List Area) → RulesKept words areas → (i j first more : ℕ) → i ≤ j → j < length areas
+    → Holds (areaAt areas i) first → Holds (areaAt areas j) (first + more)
+    → ((SomeWordInNoArea areas first (more + 1) → ⊥)
+    ↔ ((k : ℕ) → i ≤ k → k < j → Touch (areaAt areas k) (areaAt areas (k + 1))))
+
+-- all read-write: each word is of a read-write area
+abbrev pub ReadWriteMeans : Type 0
+ReadWriteMeans = (words : ℕ) (areas : List Area) → RulesKept words areas → (first count : ℕ)
+    → (Judged areas first count AllReadWrite ↔ ((word : ℕ) → Among first count word → OfAreaWith ReadWrite areas word))
+
+-- ---- the verdict, whatever the list
+
+-- there is one ..
+abbrev pub VerdictExists : Type 0
+VerdictExists = (areas : List Area) (first count : ℕ) → (verdict : Verdict) × Judged areas first count verdict
+
+-- .. and only one
+abbrev pub JudgedDetermined : Type 0
+JudgedDetermined = (areas : List Area) (first count : ℕ) → Determined (Judged areas first count)
+
+-- it is decided by the words of the run alone: two lists that agree on each of them give the same verdict ..
+abbrev pub Agree : List Area → List Area → ℕ → ℕ → Type 0
+Agree a b first count = (word : ℕ) → Among first count word
+    → (Addressable a word ↔ Addressable b word) × (OfAreaWith ReadOnly a word ↔ OfAreaWith ReadOnly b word)
+
+abbrev pub DecidedByTheWords : Type 0
+DecidedByTheWords = (a b : List Area) (first count : ℕ) → Agree a b first count
+    → (x y : Verdict) → Judged a first count x → Judged b first count y → x ≡ y
+
+-- .. so the order of the areas doesn't matter, nor whether one stands in the list twice
+abbrev pub OrderIgnored : Type 0
+OrderIgnored = (a b : List Area) (first count : ℕ) → EachArea a (λ area. SomeArea b (λ other. other ≡ area))
+    → EachArea b (λ area. SomeArea a (λ other. other ≡ area))
+    → (x y : Verdict) → Judged a first count x → Judged b first count y → x ≡ y
+
+-- ---- a list by value
+
+-- one with a length over 16 breaks the rules
+abbrev pub OverSixteen : Type 0
+OverSixteen = (list : AreaList) (words : ℕ) (r : Bool) → mostAreas < list .len → KeepsRules list words r → r ≡ false
+
+-- ---- the promise of each public function determines its answer
+
+abbrev pub KeepsRulesDetermined : Type 0
+KeepsRulesDetermined = (list : AreaList) (words : ℕ) → Determined (KeepsRules list words)
+
+abbrev pub JudgeDetermined : Type 0
+JudgeDetermined = (list : AreaList) (first count : ℕ) → Determined (Judge list first count)
