@@ -3,10 +3,14 @@
 -- number of words or the run's first word, `a .1 .1 .0` the run's count.
 -- Assumes nothing.
 use mathlib.Core.Path.{_≡_}
-use mathlib.Core.Bool.{Bool, false}
+use mathlib.Core.Bool.{Bool, true, false}
 use Prim.Native.Nat.{_<_}
+use Rattle.areas.specs.declared.Access.the-variants.{ReadWrite}
 use Rattle.areas.specs.declared.Verdict.{Verdict}
+use Rattle.areas.specs.declared.Verdict.the-variants.{AllReadWrite}
+use Rattle.areas.specs.Holding.{SomeArea, EachArea, OfAreaWith}
 use Rattle.areas.specs.Rules.{mostAreas}
+use Rattle.areas.specs.Verdicts.{EachWord}
 use Rattle.areas.specs.Calls.{listed}
 use Rattle.areas.specs.Laws.{Agree}
 use Rattle.areas.proofs.Laws as laws
@@ -40,3 +44,17 @@ judge-decided-by-the-words : (κs μs : _) (a b : _) (x y : Verdict) (s t : _) �
     → a .1 .0 ≡ b .1 .0 → a .1 .1 .0 ≡ b .1 .1 .0 → Agree (listed (a .0)) (listed (b .0)) (a .1 .0) (a .1 .1 .0) → x ≡ y
 judge-decided-by-the-words κs μs a b x y s t p q first count agree =
     laws.DecidedByTheWords (listed (a .0)) (listed (b .0)) (a .1 .0) (a .1 .1 .0) agree x y p (rw (first, count) q)
+
+judge-order-ignored : (κs μs : _) (a b : _) (x y : Verdict) (s t : _) → judge.Post κs a x s → judge.Post μs b y t
+    → a .1 .0 ≡ b .1 .0 → a .1 .1 .0 ≡ b .1 .1 .0
+    → EachArea (listed (a .0)) (λ area. SomeArea (listed (b .0)) (λ other. other ≡ area))
+    → EachArea (listed (b .0)) (λ area. SomeArea (listed (a .0)) (λ other. other ≡ area)) → x ≡ y
+judge-order-ignored κs μs a b x y s t p q first count in-b in-a =
+    laws.OrderIgnored (listed (a .0)) (listed (b .0)) (a .1 .0) (a .1 .1 .0) in-b in-a x y p (rw (first, count) q)
+
+-- ---- after `keeps_rules` said yes of a list, and `judge` that a run of it is all read-write
+
+judge-read-write-means : (κs μs : _) (a b : _) (s t : _) → keeps-rules.Post κs a true s → judge.Post μs b AllReadWrite t → a .0 ≡ b .0
+    → EachWord (b .1 .0) (b .1 .1 .0) (OfAreaWith ReadWrite (listed (b .0)))
+judge-read-write-means κs μs a b s t p q list =
+    laws.ReadWriteMeans (a .1 .0) (listed (b .0)) (rw (← list) (p .1)) (b .1 .0) (b .1 .1 .0) .0 q

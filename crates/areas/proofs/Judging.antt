@@ -29,7 +29,8 @@ judged-determined areas first count AllReadWrite AllReadWrite p q = refl
 pub judged-exists : (areas : List Area) (first count : ℕ) → (verdict : Verdict) × Judged areas first count verdict
 judged-exists areas first count = by (decInNoArea areas first count) (decReadOnly areas first count)
   where
-    by : Dec (SomeWordInNoArea areas first count) → Dec (SomeWordReadOnly areas first count) → (verdict : Verdict) × Judged areas first count verdict
+    by : Dec (SomeWordInNoArea areas first count) → Dec (SomeWordReadOnly areas first count)
+        → (verdict : Verdict) × Judged areas first count verdict
     by (yes hole) told = (SomeInNoArea, hole)
     by (no whole) (yes some) = (SomeReadOnly, (whole, some))
     by (no whole) (no none) = (AllReadWrite, (whole, none))
@@ -66,5 +67,6 @@ module _ (a b : List Area) (first count : ℕ) (agree : Agree a b first count) w
 
 -- ---- a list whose areas are all in the other
 
-pub some-area-map : (a b : List Area) (Such : Area → Type 0) → EachArea a (λ area. SomeArea b (λ other. other ≡ area)) → SomeArea a Such → SomeArea b Such
+pub some-area-map : (a b : List Area) (Such : Area → Type 0) → EachArea a (λ area. SomeArea b (λ other. other ≡ area))
+    → SomeArea a Such → SomeArea b Such
 some-area-map a b Such in-b (i, h, such) = (in-b i h .0, in-b i h .1, rw (in-b i h .2) such)

@@ -14,6 +14,7 @@ use Rattle.areas.specs.Laws as laws
 use Rattle.areas.proofs.Accesses.{not-both}
 use Rattle.areas.proofs.Across.{hole, no-earlier, no-hole}
 use Rattle.areas.proofs.Chain.{in-order-ascend, in-order-apart, rules-in-order}
+use Rattle.areas.proofs.Deciding.{decAddressable}
 use Rattle.areas.proofs.Judging.{judged-determined, judged-exists, each-read-write, judged-map, some-area-map}
 
 -- ---- a list that keeps the rules
@@ -46,21 +47,22 @@ pub WordInside : laws.WordInside
 WordInside words areas kept word (i, h, held) = omega (arith, held .1, kept .end-inside i h)
 
 pub RunInside : laws.RunInside
-RunInside words areas kept first count some whole =
-    elim (decLe (first + count) words) [
-      | yes h ↦ h
-      | no h ↦ absurd (whole (first + count - 1, (omega arith, omega arith), λ shown. omega (arith, WordInside words areas kept (first + count - 1) shown)))
-    ]
+RunInside words areas kept first count some each =
+    let last = each (first + count - 1) (omega arith, omega arith) in
+    omega (arith, WordInside words areas kept (first + count - 1) last)
 
 pub RunAcross : laws.RunAcross
-RunAcross words areas kept i j first more l h from upto = (
-  λ whole k p q. elim (decLe (areaAt areas (k + 1) .first) (endOf (areaAt areas k))) [
+RunAcross words areas kept i j first more g h from upto = (
+  λ each k p q. elim (decLe (areaAt areas (k + 1) .first) (endOf (areaAt areas k))) [
     | yes m ↦ omega (arith, rules-in-order kept k (k + 1) (omega arith) (omega arith))
-    | no m ↦ absurd (whole (endOf (areaAt areas k), within k p q m, hole areas (rules-in-order kept) k (omega arith) (omega arith)))
+    | no m ↦ absurd (hole areas (rules-in-order kept) k (omega arith) (omega arith) (each (endOf (areaAt areas k)) (within k p q m)))
   ],
-  λ touch none. none .2 (no-hole areas i j (none .0) l h touch (omega (arith, from .0, none .1 .0)) (omega (arith, upto .1, none .1 .1))),
+  λ touch word among. no-hole areas i j word forward h touch (omega (arith, from .0, among .0)) (omega (arith, upto .1, among .1)),
 )
   where
+    forward : i ≤ j
+    forward = elim (decLe i j) [ yes l ↦ l | no l ↦ absurd (omega (arith, from .0, upto .1, rules-in-order kept j i (omega arith) g)) ]
+
     within : (k : ℕ) → i ≤ k → k < j → (areaAt areas (k + 1) .first ≤ endOf (areaAt areas k) → ⊥)
         → (first ≤ endOf (areaAt areas k)) × (endOf (areaAt areas k) < first + (more + 1))
     within k p q m = (
@@ -79,6 +81,12 @@ ReadWriteMeans words areas kept first count = (
 
 -- ---- the verdict, whatever the list
 
+pub AllAddressable : laws.AllAddressable
+AllAddressable areas first count = (
+  λ whole word among. elim (decAddressable areas word) [ yes shown ↦ shown | no not ↦ absurd (whole (word, among, not)) ],
+  λ each none. none .2 (each (none .0) (none .1)),
+)
+
 pub VerdictExists : laws.VerdictExists
 VerdictExists = judged-exists
 
@@ -90,7 +98,8 @@ DecidedByTheWords a b first count agree x y p q = judged-determined b first coun
 
 pub OrderIgnored : laws.OrderIgnored
 OrderIgnored a b first count in-b in-a =
-    DecidedByTheWords a b first count (λ word among. (both (λ area. Holds area word), both (λ area. (area .access ≡ ReadOnly) × Holds area word)))
+    DecidedByTheWords a b first count
+    (λ word among. (both (λ area. Holds area word), both (λ area. (area .access ≡ ReadOnly) × Holds area word)))
   where
     both : (Such : Area → Type 0) → SomeArea a Such ↔ SomeArea b Such
     both Such = (some-area-map a b Such in-b, some-area-map b a Such in-a)

@@ -47,7 +47,7 @@ module _ (areas : List Area) (first count : ℕ) (s : Search) (so : Sought areas
     starts = so .starts;
     ends = so .ends;
     counted = so .counted;
-    inside = so .inside;
+    not-before = so .not-before;
     onward = omega (arith, so .onward);
     covered = λ w l h. elim (decLe (s .reached) w) [
       | yes m ↦ (s .next, omega (arith, so .counted), held w m h)
@@ -55,11 +55,16 @@ module _ (areas : List Area) (first count : ℕ) (s : Search) (so : Sought areas
     ];
     passed = λ short low i h held. elim (decLe (s .next) i) [
       | yes m ↦ let k : i ≡ s .next = omega arith in left short (rw k at held)
-      | no m ↦ let e : reached ≡ s .reached = omega (arith, so .onward) in so .passed (omega arith) (omega arith) i (omega arith) (rw e at held)
+      | no m ↦ let e : reached ≡ s .reached = omega (arith, so .onward) in
+          so .passed (omega arith) (omega arith) i (omega arith) (rw e at held)
     ];
     found = λ e. elim (yes-by e) [
       | inl before ↦ so .found before
-      | inr now ↦ (now .1 .0, (rw (so .starts) at (now .1 .1), rw (so .ends) at (now .1 .2)), (s .next, omega (arith, so .counted), (now .0, now .1 .3)))
+      | inr (access, (word, from, upto, held)) ↦ (
+        word,
+        (rw (so .starts) at from, rw (so .ends) at upto),
+        (s .next, omega (arith, so .counted), (access, held)),
+      )
     ];
     not-found = λ e i h access meets. elim (decLe (s .next) i) [
       | yes m ↦ let k : i ≡ s .next = omega arith in no-by e .1 (rw k at access) (rw k at meets)
@@ -72,7 +77,7 @@ module _ (areas : List Area) (first count : ℕ) (s : Search) (so : Sought areas
     pub beside : (Meets area (s .first) (s .end) → ⊥) → Sought areas first count (after s (s .reached) (s .«read_only»))
     beside apart =
         one-more inside (s .reached) (omega arith) (λ w l h. absurd (omega arith))
-        (λ short held. apart (s .reached, omega (arith, so .starts, so .inside, so .onward), short, rw same at held))
+        (λ short held. apart (s .reached, omega (arith, so .starts, so .not-before, so .onward), short, rw same at held))
         (s .«read_only») (λ e. inl e) (λ e. (e, λ access meets. apart (rw same at meets)))
 
     -- an area that holds a word of the run
@@ -90,7 +95,7 @@ module _ (areas : List Area) (first count : ℕ) (s : Search) (so : Sought areas
   pub word-in-no-area : s .len ≤ s .next → Settled s → s .reached < s .end → SomeWordInNoArea areas first count
   word-in-no-area all settled short = (
     s .reached,
-    (omega (arith, so .inside, so .onward), omega (arith, so .ends)),
+    (omega (arith, so .not-before, so .onward), omega (arith, so .ends)),
     λ shown. so .passed short (settled all short) (shown .0) (omega (arith, shown .1, so .counted)) (shown .2),
   )
 

@@ -15,7 +15,7 @@ use Rattle.areas.specs.Verdicts.{Judged}
 abbrev pub listed : AreaList → List Area
 listed list = take (list .len) (list .entries)
 
--- a length over 16 breaks the rules, whatever the entries
+-- a length over 16 breaks the rules, whatever the entries (said by itself, since `listed` never has more than sixteen areas)
 abbrev pub KeepsRules : AreaList → ℕ → Bool → Type 0
 KeepsRules list words = Decides ((list .len ≤ mostAreas) × RulesKept words (listed list))
 

@@ -12,9 +12,9 @@ use Rattle.areas.specs.declared.Area.{Area}
 use Rattle.areas.specs.declared.AreaList.{AreaList}
 use Rattle.areas.specs.declared.Verdict.{Verdict}
 use Rattle.areas.specs.declared.Verdict.the-variants.{AllReadWrite}
-use Rattle.areas.specs.Holding.{Among, Holds, endOf, areaAt, SomeArea, EachArea, EachTwo, Addressable, OfAreaWith}
+use Rattle.areas.specs.Holding.{Holds, endOf, areaAt, SomeArea, EachArea, EachTwo, Addressable, OfAreaWith}
 use Rattle.areas.specs.Rules.{mostAreas, AtMostSixteen, NoneEmpty, EndInside, RulesKept, Touch}
-use Rattle.areas.specs.Verdicts.{SomeWordInNoArea, Judged}
+use Rattle.areas.specs.Verdicts.{EachWord, SomeWordInNoArea, Judged}
 use Rattle.areas.specs.Calls.{KeepsRules, Judge}
 
 -- ---- a list that keeps the rules
@@ -39,27 +39,32 @@ MayTouch = (words : ℕ) (areas : List Area)
 abbrev pub WordInside : Type 0
 WordInside = (words : ℕ) (areas : List Area) → RulesKept words areas → (word : ℕ) → Addressable areas word → word < words
 
--- .. and a run, if none of its words is in no area
+-- .. and a run, if all its words are
 abbrev pub RunInside : Type 0
 RunInside = (words : ℕ) (areas : List Area) → RulesKept words areas → (first count : ℕ) → 1 ≤ count
-    → (SomeWordInNoArea areas first count → ⊥) → first + count ≤ words
+    → EachWord first count (Addressable areas) → first + count ≤ words
 
--- A run whose first word is in area i and whose last word is in area j: none of its words is in no area just if each area from i
--- on touches the next, up to j. So it may run across areas that touch, and its first and last word say nothing of a hole between.
+-- A run from a word of area i to a word of area j: all its words are addressable exactly if each area from i on touches the next,
+-- up to j. So a run may cross areas that touch, and its first and last word say nothing of a hole between.
 abbrev pub RunAcross : Type 0
-RunAcross = (words : ℕ) (areas : List Area) → RulesKept words areas → (i j first more : ℕ) → i ≤ j → j < length areas
+RunAcross = (words : ℕ) (areas : List Area) → RulesKept words areas → (i j first more : ℕ) → i < length areas → j < length areas
     → Holds (areaAt areas i) first → Holds (areaAt areas j) (first + more)
-    → ((SomeWordInNoArea areas first (more + 1) → ⊥)
+    → (EachWord first (more + 1) (Addressable areas)
     ↔ ((k : ℕ) → i ≤ k → k < j → Touch (areaAt areas k) (areaAt areas (k + 1))))
 
 -- all read-write: each word is of a read-write area
 abbrev pub ReadWriteMeans : Type 0
 ReadWriteMeans = (words : ℕ) (areas : List Area) → RulesKept words areas → (first count : ℕ)
-    → (Judged areas first count AllReadWrite ↔ ((word : ℕ) → Among first count word → OfAreaWith ReadWrite areas word))
+    → (Judged areas first count AllReadWrite ↔ EachWord first count (OfAreaWith ReadWrite areas))
 
 -- ---- the verdict, whatever the list
 
--- there is one ..
+-- no word of the run is in no area: all are addressable
+abbrev pub AllAddressable : Type 0
+AllAddressable = (areas : List Area) (first count : ℕ)
+    → ((SomeWordInNoArea areas first count → ⊥) ↔ EachWord first count (Addressable areas))
+
+-- there is a verdict ..
 abbrev pub VerdictExists : Type 0
 VerdictExists = (areas : List Area) (first count : ℕ) → (verdict : Verdict) × Judged areas first count verdict
 
@@ -69,8 +74,8 @@ JudgedDetermined = (areas : List Area) (first count : ℕ) → Determined (Judge
 
 -- it is decided by the words of the run alone: two lists that agree on each of them give the same verdict ..
 abbrev pub Agree : List Area → List Area → ℕ → ℕ → Type 0
-Agree a b first count = (word : ℕ) → Among first count word
-    → (Addressable a word ↔ Addressable b word) × (OfAreaWith ReadOnly a word ↔ OfAreaWith ReadOnly b word)
+Agree a b first count = EachWord first count
+    (λ word. (Addressable a word ↔ Addressable b word) × (OfAreaWith ReadOnly a word ↔ OfAreaWith ReadOnly b word))
 
 abbrev pub DecidedByTheWords : Type 0
 DecidedByTheWords = (a b : List Area) (first count : ℕ) → Agree a b first count

@@ -28,7 +28,7 @@ pub record Sought (areas : List Area) (first count : ℕ) (s : Search) : Type 0 
   pub starts : s .first ≡ first
   pub ends : s .end ≡ first + count
   pub counted : s .len ≡ length areas
-  pub inside : first ≤ s .begun
+  pub not-before : first ≤ s .begun
   pub onward : s .begun ≤ s .reached
   pub covered : (w : ℕ) → first ≤ w → w < s .reached → Addressable areas w
   pub passed : s .reached < s .end → s .reached ≤ s .begun → (i : ℕ) → i < s .next
@@ -41,7 +41,7 @@ pub record Sought (areas : List Area) (first count : ℕ) (s : Search) : Type 0 
 abbrev pub Settled : Search → Type 0
 Settled s = s .len ≤ s .next → s .reached < s .end → s .reached ≤ s .begun
 
--- ---- what its methods promise, of any list that is searched
+-- ---- what the methods of `Search` promise, of any list that is searched
 
 abbrev pub Begun : ℕ → ℕ → ℕ → Search → Type 0
 Begun first count len s = Settled s × ((areas : List Area) → length areas ≡ len → Sought areas first count s)

@@ -1,5 +1,5 @@
 // The areas of a station: which words of the image are addressable, and which of them may be written.
-// No public function has a `requires`. The contracts cite specs/Calls.antt.
+// No public function has a `requires`. The public contracts cite specs/Calls.antt.
 mod search;
 
 use search::Search;
@@ -35,7 +35,7 @@ pub struct AreaList {
 pub enum Verdict {
     // Some word lies in no area.
     SomeInNoArea,
-    // None does, but some word is of a read-only area: they may be read, but not written.
+    // None does, but some word is of a read-only area: the run may be read, but not written.
     SomeReadOnly,
     // Each word is of read-write areas alone.
     AllReadWrite,
@@ -85,7 +85,7 @@ pub fn keeps_rules(list: AreaList, words: usize) -> bool
     true
 }
 
-// How many of the entries are areas of the list: of a length over 16, all sixteen.
+// How many of the entries are areas of the list: with a length over 16, all sixteen.
 fn used(len: usize) -> usize
     ensures { λ r. ⌜ r ≡ min len mostAreas ⌝ }
 {

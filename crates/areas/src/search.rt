@@ -1,5 +1,5 @@
-// A search of a list of areas for the words of a run, one area at a time: once over a list that keeps the rules and has no hole
-// in the run, and over any other list as often as it brings more words.
+// A search of a list of areas for the words of a run, one area at a time. The list is begun again as long as the last pass
+// reached more words and some are left: never, if the list keeps the rules and the run has no hole.
 use super::Access;
 use super::Area;
 use super::Verdict;
@@ -71,7 +71,7 @@ impl Search {
         self.reached
     }
 
-    // A look at the next area.
+    // A look at `area`, the one at `next`.
     pub(crate) fn look(mut self, area: Area) -> Self
         requires { ⌜ self .next < self .len ⌝ }
         ensures { λ r. ⌜ Looked self area r ⌝ }

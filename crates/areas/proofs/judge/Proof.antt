@@ -51,7 +51,8 @@ again-requires c κs = search needs
 
 -- what the search knows after the look
 looked : (c : tie.After-look Inv-loop μ-loop)
-    → Sought (listed (c .before .before .before .before .before .before .before .args .t1)) (c .before .before .before .before .before .before .before .args .first)
+    → Sought (listed (c .before .before .before .before .before .before .before .args .t1))
+    (c .before .before .before .before .before .before .before .args .first)
     (c .before .before .before .before .before .before .before .args .count) (c .look .result)
 looked c =
     let list = c .before .before .before .before .before .before .before .args .t1 in

@@ -20,8 +20,11 @@ meets-requires c κs = search needs
 returns : tie.Need-returns
 returns c =
     let start = c .before .before .before in
-    let apart = failed _ (c .before .meets .result) (c .before .meets .ensures) (c .if1 .taken) in
-    (refl, refl, λ areas first count same so. beside areas first count (start .args .self) so (start .pre) (start .args .area) same apart)
+    let apart = failed _ (c .before .meets .result) (c .before .meets .ensures) (c .if1 .taken) in (
+      refl,
+      refl,
+      λ areas first count same so. beside areas first count (start .args .self) so (start .pre) (start .args .area) same apart,
+    )
 
 past-requires : tie.Need-past-requires
 past-requires c κs = search needs
@@ -43,8 +46,8 @@ returns-2 c =
     let start = past .before .before .before .before in (
       refl,
       refl,
-      λ areas first count same so. met areas first count (start .args .self) so (start .pre) (start .args .area) same (shared past) _ (past .past .ensures) _
-          (λ e. inr (c .enum-told .given .1)) (λ e. absurd (false≢true (sym e))),
+      λ areas first count same so. met areas first count (start .args .self) so (start .pre) (start .args .area) same
+          (shared past) _ (past .past .ensures) _ (λ e. inr (c .enum-told .given .1)) (λ e. absurd (false≢true (sym e))),
     )
 
 returns-3 : tie.Need-returns-3
@@ -53,8 +56,8 @@ returns-3 c =
     let start = past .before .before .before .before in (
       refl,
       refl,
-      λ areas first count same so. met areas first count (start .args .self) so (start .pre) (start .args .area) same (shared past) _ (past .past .ensures) _
-          (λ e. inl e) (λ e. (e, λ access. not-both _ access (c .enum-told2 .given .1))),
+      λ areas first count same so. met areas first count (start .args .self) so (start .pre) (start .args .area) same
+          (shared past) _ (past .past .ensures) _ (λ e. inl e) (λ e. (e, λ access. not-both _ access (c .enum-told2 .given .1))),
     )
 
 pub look-spec : {M : Type 1} → statement M

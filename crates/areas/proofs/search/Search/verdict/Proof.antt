@@ -5,17 +5,25 @@ use Rattle.areas.proofs.search.Search.verdict.Statement.{statement}
 use Rattle.areas.proofs.search.Search.verdict.Tie as tie
 
 returns : tie.Need-returns
-returns c = λ areas first count all settled so. word-in-no-area areas first count (c .before .before .args .self) so all settled (c .if1 .taken)
+returns c =
+    let s = c .before .before .args .self in
+    λ areas first count all settled so. word-in-no-area areas first count s so all settled (c .if1 .taken)
 
 returns-2 : tie.Need-returns-2
 returns-2 c =
     let s = c .before .before .before .args .self in
-    λ areas first count all settled so. (no-word-in-no-area areas first count s so (c .before .if1 .left), so .found (c .if2 .taken))
+    λ areas first count all settled so. (
+      no-word-in-no-area areas first count s so (c .before .if1 .left),
+      so .found (c .if2 .taken),
+    )
 
 returns-3 : tie.Need-returns-3
 returns-3 c =
     let s = c .before .before .before .args .self in
-    λ areas first count all settled so. (no-word-in-no-area areas first count s so (c .before .if1 .left), no-word-read-only areas first count s so all (c .if2 .left))
+    λ areas first count all settled so. (
+      no-word-in-no-area areas first count s so (c .before .if1 .left),
+      no-word-read-only areas first count s so all (c .if2 .left),
+    )
 
 pub verdict-spec : {M : Type 1} → statement M
 verdict-spec = tie.close (tie.spec returns returns-2 returns-3)
