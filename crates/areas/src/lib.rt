@@ -11,7 +11,8 @@ ghost use Rattle.areas.specs.Rules.{mostAreas};
 ghost use Rattle.areas.specs.Calls.{KeepsRules, Judge};
 ghost use Rattle.areas.specs.Following.{Follows};
 
-const MOST_AREAS: usize = 16;
+// The most areas that a list may have.
+pub const MOST_AREAS: usize = 16;
 
 pub enum Access {
     ReadOnly,
