@@ -16,8 +16,11 @@ abbrev pub listed : AreaList → List Area
 listed list = take (list .len) (list .entries)
 
 -- a length over 16 breaks the rules, whatever the entries (said by itself, since `listed` never has more than sixteen areas)
+abbrev pub ListKept : AreaList → ℕ → Type 0
+ListKept list words = (list .len ≤ mostAreas) × RulesKept words (listed list)
+
 abbrev pub KeepsRules : AreaList → ℕ → Bool → Type 0
-KeepsRules list words = Decides ((list .len ≤ mostAreas) × RulesKept words (listed list))
+KeepsRules list words = Decides (ListKept list words)
 
 -- a list has its verdicts whether it keeps the rules or not
 abbrev pub Judge : AreaList → ℕ → ℕ → Verdict → Type 0

@@ -17,9 +17,13 @@ bytesForWords count = 2 * count
 abbrev pub packedBit : List ℕ → ℕ → ℕ
 packedBit bytes = bitAmong byteBits (λ j. getD bytes j 0)
 
--- word n of packed words: two bytes each, high byte first
+-- a number of two bytes, high byte first
+abbrev pub highFirst : ℕ → ℕ → ℕ
+highFirst high low = high * 256 + low
+
+-- word n of packed words: two bytes each
 abbrev pub packedWord : List ℕ → ℕ → ℕ
-packedWord bytes n = getD bytes (2 * n) 0 * 256 + getD bytes (2 * n + 1) 0
+packedWord bytes n = highFirst (getD bytes (2 * n) 0) (getD bytes (2 * n + 1) 0)
 
 -- the bytes of a run of bits: they show each of its bits, and 0 past its end
 pub record BitsPacked (count : ℕ) (run : ℕ → ℕ) (bytes : List ℕ) : Type 0 where

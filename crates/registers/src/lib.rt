@@ -2,14 +2,17 @@
 // No public function has a `requires`. The contracts cite specs/Calls.antt.
 mod pieces;
 
-use pieces::BYTE_BITS;
-use pieces::WORD_BITS;
 ghost use mathlib.Core.Path.{_≡_};
 ghost use Prim.Native.Nat.{_+_, _*_, _≤_};
 ghost use Rattle.promise.specs.Promise.{Decides};
 ghost use Rattle.registers.specs.Memory.{wordBits};
 ghost use Rattle.registers.specs.Packing.{bytesForBits, bytesForWords};
 ghost use Rattle.registers.specs.Calls.{PackBits, PackWords, bitValue, StoreBit, StoreWord, StoreBits, StoreWords};
+
+// The bits of a word, and of a byte.
+pub const WORD_BITS: usize = 16;
+
+pub const BYTE_BITS: usize = 8;
 
 // Whether a run of words lies inside an image of `words` words, and takes no more than `bytes` bytes.
 fn words_fit(words: usize, first: usize, count: usize, bytes: usize) -> bool

@@ -1,4 +1,6 @@
 // Runs of bits moved by the word: up to sixteen bits at once, out of an image or packed bytes, and into an image or a buffer.
+use crate::BYTE_BITS;
+use crate::WORD_BITS;
 ghost use mathlib.Core.Path.{_≡_};
 ghost use Prim.Native.Nat.{_+_, _*_, _/_, _%_, _^_, _≤_, _<_, min};
 ghost use lib.ListN.{length, getD};
@@ -6,10 +8,6 @@ ghost use Rattle.registers.specs.Memory.{wordBits, byteBits, bit, imageB
 ghost use Rattle.registers.specs.Packing.{packedBit, bytesForBits, BitsPacked, Filled};
 ghost use Rattle.registers.specs.Storing.{BitsStored};
 ghost use Rattle.registers.specs.Pieces.{Shows};
-
-pub(crate) const WORD_BITS: usize = 16;
-
-pub(crate) const BYTE_BITS: usize = 8;
 
 // 2 to the n.
 fn power_of_two(n: usize) -> u32
