@@ -1,0 +1,3 @@
+pub mod Codes
+mod Contracts
+pub mod Laws

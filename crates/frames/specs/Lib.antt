@@ -1,0 +1,5 @@
+pub mod Fields
+pub mod Functions
+pub mod Limits
+pub mod Exceptions
+pub mod Laws
