@@ -1,0 +1,124 @@
+-- `decide_request` meets its contract.
+-- Assumes nothing.
+use mathlib.Core.Path.{refl, sym, ap, _∙_}
+use mathlib.Core.Logic.{inl, _≢_}
+use lib.ListN.{length}
+use Rattle.promise.proofs.Promise.{if-taken, if-left}
+use Rattle.slave.specs.declared.decide.Request.{Request}
+use Rattle.slave.specs.Conditions.{countedFrom0}
+use Rattle.slave.specs.Deciding.{Reads}
+use Rattle.slave.proofs.Lines.{here, past, here-if, past-if}
+use Rattle.slave.proofs.Judging.{by-verdict}
+use borrow.Author.Needs.{needs}
+use Rattle.slave.proofs.decide.decide_request.Statement.{statement}
+use Rattle.slave.proofs.decide.decide_request.Tie as tie
+
+request-length-requires : tie.Need-request-length-requires
+request-length-requires c κs = search needs
+
+quantity-of-requires : tie.Need-quantity-of-requires
+quantity-of-requires c κs = search needs
+
+is-out-of-limits-requires : tie.Need-is-out-of-limits-requires
+is-out-of-limits-requires c κs = search needs
+
+number-at-requires : tie.Need-number-at-requires
+number-at-requires c κs = search needs
+
+names-nothing-requires : tie.Need-names-nothing-requires
+names-nothing-requires c κs = search needs
+
+returns : tie.Need-returns
+returns c =
+    let read = c .before in
+    let asked = read .before .before .before .before .request-length in
+    let start = read .before .before .before .before .before .before in
+    let wrong : length (start .args .frame .now) ≢ asked .result = c .if1 .taken in
+    here (rw (start .pre) (λ e. wrong (e ∙ sym (asked .ensures)))) refl tt
+
+returns-2 : tie.Need-returns-2
+returns-2 c =
+    let read = c .before .before in
+    let length = read .before .before .before .before .request-length .ensures in
+    let count = read .before .before .before .quantity-of in
+    let function = read .before .before .before .before .before .before .pre in
+    past (λ wrong. (rw function at wrong) (c .before .if1 .left ∙ length))
+    (here (rw function (sym (count .ensures) ∙ c .if2 .taken)) refl tt)
+
+returns-3 : tie.Need-returns-3
+returns-3 c =
+    let read = c .before .before .before in
+    let length = read .before .before .before .before .request-length .ensures in
+    let count = read .before .before .before .quantity-of in
+    let limits = read .before .before .is-out-of-limits in
+    let function = read .before .before .before .before .before .before .pre in
+    past (λ wrong. (rw function at wrong) (c .before .before .if1 .left ∙ length))
+    (past (λ none. c .before .if2 .left (count .ensures ∙ (rw function at none)))
+    (here-if (limits .result) (rw function (limits .ensures)) (c .if3 .taken) refl tt))
+
+returns-4 : tie.Need-returns-4
+returns-4 c =
+    let read = c .before .before .before .before in
+    let length = read .before .before .before .before .request-length .ensures in
+    let count = read .before .before .before .quantity-of in
+    let limits = read .before .before .is-out-of-limits in
+    let start = read .before .number-at .ensures in
+    let nothing = read .names-nothing in
+    let function = read .before .before .before .before .before .before .pre in
+    past (λ wrong. (rw function at wrong) (c .before .before .before .if1 .left ∙ length))
+    (past (λ none. c .before .before .if2 .left (count .ensures ∙ (rw function at none)))
+    (past-if (limits .result) (rw function (limits .ensures)) (c .before .if3 .left)
+    (here (inl (rw start at (if-taken _ (nothing .result) (nothing .ensures) (c .if4 .taken)))) refl tt)))
+
+counted-from-0-requires : tie.Need-counted-from-0-requires
+counted-from-0-requires c κs = search needs
+
+judge-run-requires : tie.Need-judge-run-requires
+judge-run-requires c κs = search needs
+
+by-verdict-requires : tie.Need-by-verdict-requires
+by-verdict-requires c κs = search needs
+
+returns-5 : tie.Need-returns-5
+returns-5 c =
+    let read = c .before .before .before .before .before .before .before in
+    let length = read .before .before .before .before .request-length .ensures in
+    let count = read .before .before .before .quantity-of in
+    let limits = read .before .before .is-out-of-limits in
+    let start = read .before .number-at .ensures in
+    let nothing = read .names-nothing in
+    let function = read .before .before .before .before .before .before .pre in
+    let a = read .before .before .before .before .before .before .args in
+    let first = c .before .before .counted-from-0 in
+    let request : Request = record { act = a .act; width = a .width; first = first .result; count = count .result } in
+    let reads : Reads (a .station) (a .frame .now) request =
+    record {
+      function = function;
+      first = first .ensures ∙ ap (countedFrom0 (a .station .counting)) start;
+      count = count .ensures;
+    } in
+    past (λ wrong. (rw function at wrong) (c .before .before .before .before .before .before .if1 .left ∙ length))
+    (past (λ none. c .before .before .before .before .before .if2 .left (count .ensures ∙ (rw function at none)))
+    (past-if (limits .result) (rw function (limits .ensures)) (c .before .before .before .before .if3 .left)
+    (rw (c .by-verdict .ensures)
+    (by-verdict (a .station) (a .frame .now) request reads (a .areas)
+    (λ n. if-left _ (nothing .result) (nothing .ensures) (c .before .before .before .if4 .left) (rw start n))
+    (c .before .judge-run .result) (c .before .judge-run .ensures)))))
+
+pub decide-request-spec : {M : Type 1} → statement M
+decide-request-spec =
+    tie.close
+    (tie.spec
+    request-length-requires
+    quantity-of-requires
+    is-out-of-limits-requires
+    number-at-requires
+    names-nothing-requires
+    returns
+    returns-2
+    returns-3
+    returns-4
+    counted-from-0-requires
+    judge-run-requires
+    by-verdict-requires
+    returns-5)

@@ -1,0 +1,102 @@
+-- `is_out_of_limits` meets its contract.
+-- Assumes nothing.
+use mathlib.Core.Path.{_≡_, refl, sym, ap, _∙_}
+use mathlib.Core.Logic.{inl, inr, ⊎-elim}
+use native.Mathlib.Omega.{arith}
+use lib.Dec.{eqb}
+use borrow.Author.Tests.{eqb-true, eq-eqb}
+use Rattle.promise.proofs.Promise.{decides-by, decides-map, decides-not}
+use Rattle.frames.specs.Fields.{quantityField}
+use Rattle.frames.specs.Limits.{bytesFor}
+use Rattle.slave.proofs.Cases.{actPlace, apart}
+use borrow.Author.Needs.{needs}
+use Rattle.slave.proofs.decide.is_out_of_limits.Statement.{statement}
+use Rattle.slave.proofs.decide.is_out_of_limits.Tie as tie
+
+most-of-requires : tie.Need-most-of-requires
+most-of-requires c κs = search needs
+
+returns : tie.Need-returns
+returns c =
+    let told = c .before .most-of .ensures in
+    let asked = c .before .before .before .pre in
+    inl (omega arith)
+
+enum-told : tie.Need-enum-told
+enum-told c = search needs
+
+enum-told-2 : tie.Need-enum-told-2
+enum-told-2 c = search needs
+
+number-at-requires : tie.Need-number-at-requires
+number-at-requires c κs = search needs
+
+is-wrong-bit-value-requires : tie.Need-is-wrong-bit-value-requires
+is-wrong-bit-value-requires c κs = search needs
+
+enum-told-3 : tie.Need-enum-told-3
+enum-told-3 c = search needs
+
+byte-at-requires : tie.Need-byte-at-requires
+byte-at-requires c κs = search needs
+
+cast-result : tie.Need-cast-result
+cast-result c = search needs
+
+bytes-for-requires : tie.Need-bytes-for-requires
+bytes-for-requires c κs = search needs
+
+returns-2 : tie.Need-returns-2
+returns-2 c =
+    let told = c .before .before .before .most-of .ensures in
+    let asked = c .before .before .before .before .before .pre in
+    let act = c .enum-told .given .1 in
+    ⊎-elim (λ h. omega arith)
+    (⊎-elim (λ run. apart actPlace act (run .0) (omega arith)) (λ one. apart actPlace act (one .0) (omega arith)))
+
+returns-3 : tie.Need-returns-3
+returns-3 c =
+    let told = c .before .before .before .before .before .most-of .ensures in
+    let asked = c .before .before .before .before .before .before .before .pre in
+    let act = c .before .before .enum-told2 .given .1 in
+    let value = c .before .number-at .ensures in
+    decides-map _ _ (c .is-wrong-bit-value .result) (λ n. inr (inr (act, n .0, λ v. n .1 (rw value v))))
+    (elim [
+      | inl h ↦ absurd (omega arith)
+      | inr (inl run) ↦ absurd (apart actPlace act (run .0) (omega arith))
+      | inr (inr one) ↦ (one .1, λ v. one .2 (rw (← value) v))
+    ]) (c .is-wrong-bit-value .ensures)
+
+returns-4 : tie.Need-returns-4
+returns-4 c =
+    let told = c .before .before .before .before .before .most-of .ensures in
+    let asked = c .before .before .before .before .before .before .before .pre in
+    let act = c .before .before .enum-told3 .given .1 in
+    let byte = c .before .byte-at in
+    let bytes = c .bytes-for in
+    let a = c .before .before .before .before .before .before .before .args in
+    let count : a .count ≡ quantityField (a .frame .now) = asked ∙ rw act refl in
+    let size = bytes .ensures ∙ ap (bytesFor (a .width)) count in
+    decides-not (byte .result ≡ bytes .result) _ (eqb (byte .result) (bytes .result))
+    (λ e. ⊎-elim (λ h. omega arith)
+    (⊎-elim (λ run. run .1 (sym (byte .ensures) ∙ e ∙ size)) (λ one. apart actPlace act (one .0) (omega arith))))
+    (λ other. inr (inl (act, λ e. other (byte .ensures ∙ e ∙ sym size))))
+    (decides-by _ (eqb (byte .result) (bytes .result)) (eqb-true _ _) (eq-eqb _ _))
+
+pub is-out-of-limits-spec : {M : Type 1} → statement M
+is-out-of-limits-spec =
+    tie.close
+    (tie.spec
+    most-of-requires
+    returns
+    enum-told
+    enum-told-2
+    number-at-requires
+    is-wrong-bit-value-requires
+    enum-told-3
+    byte-at-requires
+    cast-result
+    bytes-for-requires
+    returns-2
+    returns-3
+    returns-4)

@@ -1,0 +1,302 @@
+// What to answer: the lines of the answer table, in their order. What a group of lines asks is found out first, and then tested line by
+// line; the areas are asked last, and their verdict gives E8 and one part of E2. Nothing is written, and no register is read.
+use crate::Counting;
+use crate::LEAST_ROOM;
+use crate::MOST_IMAGE_WORDS;
+use crate::Refusal;
+use crate::Silence;
+use crate::State;
+use crate::Station;
+use areas::AreaList;
+use areas::Verdict;
+use frames::Act;
+use frames::Code;
+use frames::Lookup;
+use frames::Width;
+use registers::WORD_BITS;
+ghost use mathlib.Core.Path.{_≡_};
+ghost use mathlib.Core.Logic.{_⊎_, _≢_};
+ghost use Prim.Native.Nat.{_≤_, _<_};
+ghost use Rattle.promise.specs.Promise.{Decides};
+ghost use Rattle.check_word.specs.Frame.{shortest, longest};
+ghost use Rattle.areas.specs.Calls.{listed};
+ghost use Rattle.frames.specs.declared.Lookup.the-variants.{Found};
+ghost use Rattle.frames.specs.declared.Width.the-variants.{Bit};
+ghost use Rattle.frames.specs.Fields.{functionField};
+ghost use Rattle.frames.specs.Functions.{functionOf};
+ghost use Rattle.frames.specs.Limits.{quantity, BitValue};
+ghost use Rattle.slave.specs.declared.Counting.the-variants.{JBus};
+ghost use Rattle.slave.specs.declared.State.the-variants.{NotReady, AtTheKeyboard};
+ghost use Rattle.slave.specs.Conditions.{mostImageWords, OutOfLimits, countedFrom0, AddressedBy};
+ghost use Rattle.slave.specs.Table.{table};
+ghost use Rattle.slave.specs.Deciding.{Decided, frameLines, messageLines, requestLines, JudgedBy, wordsOf, byVerdict, acceptIfARead};
+
+// An accepted request: `count` bits or words from address `first` on, counted from 0.
+pub(crate) struct Request {
+    pub act: Act,
+    pub width: Width,
+    pub first: u16,
+    pub count: u16,
+}
+
+pub(crate) enum Decision {
+    Refused(Refusal),
+    Silent(Silence),
+    Exception(Code),
+    Accepted(Request),
+}
+
+// The whole table: lines 1 to 4 are about the call.
+pub(crate) fn decide(
+    station: Station,
+    areas: AreaList,
+    words: usize,
+    room: usize,
+    frame: &[u8],
+) -> Decision
+    ensures { λ r. ⌜ Decided (table station areas words room (now (frame .entry))) station (now (frame .entry)) r ⌝ }
+{
+    let no_image = is_no_image(words);
+    let kept = areas::keeps_rules(areas, words);
+    if station.own == 0 {
+        return Decision::Refused(Refusal::OwnAddress);
+    }
+    if no_image {
+        return Decision::Refused(Refusal::Image);
+    }
+    if !kept {
+        return Decision::Refused(Refusal::Areas);
+    }
+    if room < LEAST_ROOM {
+        return Decision::Refused(Refusal::ReplyBuffer);
+    }
+    decide_frame(station, areas, frame)
+}
+
+// Line 2: an image has 1 to 4,095 words.
+fn is_no_image(words: usize) -> bool
+    ensures { λ r. ⌜ Decides ((words ≡ 0) ⊎ (mostImageWords < words)) r ⌝ }
+{
+    if words == 0 {
+        return true;
+    }
+    MOST_IMAGE_WORDS < words
+}
+
+// From line 10 on. Lines 10 and 11 are about the frame as the serial line brings it.
+fn decide_frame(station: Station, areas: AreaList, frame: &[u8]) -> Decision
+    ensures { λ r. ⌜ Decided (frameLines station areas (now (frame .entry))) station (now (frame .entry)) r ⌝ }
+{
+    let no_length = is_no_length(frame.len());
+    let right = check_word::is_right(frame);
+    if no_length {
+        return Decision::Silent(Silence::FrameLength);
+    }
+    if !right {
+        return Decision::Silent(Silence::CheckWord);
+    }
+    decide_message(station, areas, frame)
+}
+
+// Line 10: a frame has 4 to 256 bytes.
+fn is_no_length(length: usize) -> bool
+    ensures { λ r. ⌜ Decides ((length < shortest) ⊎ (longest < length)) r ⌝ }
+{
+    if length < frames::SHORTEST {
+        return true;
+    }
+    frames::LONGEST < length
+}
+
+// From line 12 on: address, function and data.
+fn decide_message(station: Station, areas: AreaList, frame: &[u8]) -> Decision
+    ensures { λ r. ⌜ Decided (messageLines station areas (now (frame .entry))) station (now (frame .entry)) r ⌝ }
+{
+    let address = frames::byte_at(frame, frames::STATION_AT);
+    let anothers = is_anothers(station.own, address);
+    let state = station.state;
+    let at_the_keyboard = is_at_the_keyboard(state);
+    let not_ready = is_not_ready(state);
+    let function = frames::byte_at(frame, frames::FUNCTION_AT);
+    let found = frames::function_of(function);
+    if anothers {
+        return Decision::Silent(Silence::AnotherStation);
+    }
+    if at_the_keyboard {
+        return Decision::Silent(Silence::AtTheKeyboard);
+    }
+    if not_ready {
+        return Decision::Exception(Code::NotReady);
+    }
+    match found {
+        Lookup::NotInTable => Decision::Exception(Code::Function),
+        Lookup::Found(act, width) => decide_request(station, areas, act, width, frame),
+    }
+}
+
+// Line 12: 0 is always another's.
+fn is_anothers(own: u8, address: u8) -> bool
+    ensures { λ r. ⌜ Decides ((address ≡ 0) ⊎ (address ≢ own)) r ⌝ }
+{
+    if address == 0 {
+        return true;
+    }
+    address != own
+}
+
+// Line 13.
+fn is_at_the_keyboard(state: State) -> bool
+    ensures { λ r. ⌜ Decides (state ≡ AtTheKeyboard) r ⌝ }
+{
+    match state {
+        State::Ready => false,
+        State::NotReady => false,
+        State::AtTheKeyboard => true,
+    }
+}
+
+// Line E4.
+fn is_not_ready(state: State) -> bool
+    ensures { λ r. ⌜ Decides (state ≡ NotReady) r ⌝ }
+{
+    match state {
+        State::Ready => false,
+        State::NotReady => true,
+        State::AtTheKeyboard => false,
+    }
+}
+
+// From line 14 on, of a function in the table.
+fn decide_request(
+    station: Station,
+    areas: AreaList,
+    act: Act,
+    width: Width,
+    frame: &[u8],
+) -> Decision
+    requires { ⌜ functionOf (functionField (now frame)) ≡ Found act width ⌝ }
+    ensures { λ r. ⌜ Decided (requestLines station areas (now (frame .entry))) station (now (frame .entry)) r ⌝ }
+{
+    let length = frames::request_length(act, frame);
+    let count = frames::quantity_of(act, frame);
+    let out_of_limits = is_out_of_limits(act, width, count, frame);
+    let start = frames::number_at(frame, frames::START_AT);
+    let counting = station.counting;
+    let nothing = names_nothing(counting, start);
+    if frame.len() != length {
+        return Decision::Silent(Silence::RequestLength);
+    }
+    if count == 0 {
+        return Decision::Silent(Silence::NoQuantity);
+    }
+    if out_of_limits {
+        return Decision::Exception(Code::Value);
+    }
+    if nothing {
+        return Decision::Exception(Code::Address);
+    }
+    let first = counted_from_0(counting, start);
+    let verdict = judge_run(areas, width, first, count);
+    by_verdict(
+        verdict,
+        Request {
+            act,
+            width,
+            first,
+            count,
+        },
+    )
+}
+
+// Line E3: quantity over the most; byte count not the quantity's; bit value neither on nor off.
+fn is_out_of_limits(act: Act, width: Width, count: u16, frame: &[u8]) -> bool
+    requires { ⌜ count ≡ quantity act (now frame) ⌝ }
+    ensures { λ r. ⌜ Decides (OutOfLimits (now (frame .entry)) act width) r ⌝ }
+{
+    if frames::most_of(act, width) < count {
+        return true;
+    }
+    match act {
+        Act::Read => false,
+        Act::WriteOne => is_wrong_bit_value(width, frames::number_at(frame, frames::VALUE_AT)),
+        Act::WriteRun => {
+            frames::byte_at(frame, frames::BYTE_COUNT_AT) as usize
+                != frames::bytes_for(width, count)
+        }
+    }
+}
+
+// Whether a bit is to be given a value that is neither on nor off.
+fn is_wrong_bit_value(width: Width, value: u16) -> bool
+    ensures { λ r. ⌜ Decides ((width ≡ Bit) × (BitValue value → ⊥)) r ⌝ }
+{
+    match width {
+        Width::Bit => !frames::is_bit_value(value),
+        Width::Word => false,
+    }
+}
+
+// Line E2, its first part: J-Bus start 0 names nothing.
+fn names_nothing(counting: Counting, start: u16) -> bool
+    ensures { λ r. ⌜ Decides ((counting ≡ JBus) × (start ≡ 0)) r ⌝ }
+{
+    match counting {
+        Counting::ModBus => false,
+        Counting::JBus => start == 0,
+    }
+}
+
+// The address that the start names, counted from 0. (J-Bus start 0, which names none, gives 0; it is answered before.)
+fn counted_from_0(counting: Counting, start: u16) -> u16
+    ensures { λ r. ⌜ r ≡ countedFrom0 counting start ⌝ }
+{
+    match counting {
+        Counting::ModBus => start,
+        Counting::JBus => if start == 0 { 0 } else { start - 1 },
+    }
+}
+
+// The verdict on the words that a run of bits or words addresses.
+fn judge_run(areas: AreaList, width: Width, first: u16, count: u16) -> Verdict
+    requires { ⌜ 1 ≤ count ⌝ }
+    ensures { λ r. ⌜ JudgedBy (listed areas) (AddressedBy width first count) r ⌝ }
+{
+    match width {
+        Width::Bit => areas::judge(
+            areas,
+            (first as usize / WORD_BITS) as u16,
+            words_of(first, count),
+        ),
+        Width::Word => areas::judge(areas, first, count),
+    }
+}
+
+// How many words the bits of a run belong to.
+fn words_of(first: u16, count: u16) -> u16
+    ensures { λ r. ⌜ r ≡ wordsOf first count ⌝ }
+{
+    ((first as usize % WORD_BITS + count as usize + 15) / WORD_BITS) as u16
+}
+
+// Lines E2, as far as it is about areas, and E8.
+fn by_verdict(verdict: Verdict, request: Request) -> Decision
+    ensures { λ r. ⌜ r ≡ byVerdict verdict request ⌝ }
+{
+    match verdict {
+        Verdict::SomeInNoArea => Decision::Exception(Code::Address),
+        Verdict::SomeReadOnly => accept_if_a_read(request),
+        Verdict::AllReadWrite => Decision::Accepted(request),
+    }
+}
+
+// A request on words of which some are read-only: it is accepted if it reads.
+fn accept_if_a_read(request: Request) -> Decision
+    ensures { λ r. ⌜ r ≡ acceptIfARead (request .act) request ⌝ }
+{
+    let act = request.act;
+    match act {
+        Act::Read => Decision::Accepted(request),
+        Act::WriteOne => Decision::Exception(Code::ReadOnly),
+        Act::WriteRun => Decision::Exception(Code::ReadOnly),
+    }
+}
