@@ -15,7 +15,7 @@ use Rattle.areas.specs.Verdicts.{SomeWord, SomeWordInNoArea, SomeWordRea
 use Rattle.areas.proofs.Accesses.{decAccess}
 
 -- of the numbers below n, one is such, or none
-some-below : (n : ℕ) (Such : ℕ → Type 0) → ((i : ℕ) → Dec (Such i)) → Dec ((i : ℕ) × (i < n) × Such i)
+pub some-below : (n : ℕ) (Such : ℕ → Type 0) → ((i : ℕ) → Dec (Such i)) → Dec ((i : ℕ) × (i < n) × Such i)
 some-below zero Such told = no (λ some. omega (arith, some .1))
 some-below (suc n) Such told = one-more (some-below n Such told) (told n)
   where
@@ -35,14 +35,14 @@ decHolds area word = Dec·and (decLe (area .first) word) (decLt word (area .firs
 pub decAddressable : (areas : List Area) (word : ℕ) → Dec (Addressable areas word)
 decAddressable areas word = some-below (length areas) (λ i. Holds (areaAt areas i) word) (λ i. decHolds (areaAt areas i) word)
 
-decOfAreaWith : (access : Access) (areas : List Area) (word : ℕ) → Dec (OfAreaWith access areas word)
+pub decOfAreaWith : (access : Access) (areas : List Area) (word : ℕ) → Dec (OfAreaWith access areas word)
 decOfAreaWith access areas word =
     some-below (length areas) (λ i. (areaAt areas i .access ≡ access) × Holds (areaAt areas i) word)
     (λ i. Dec·and (decAccess (areaAt areas i .access) access) (decHolds (areaAt areas i) word))
 
 -- ---- some word of a run
 
-decSomeWord : (first count : ℕ) (Such : ℕ → Type 0) → ((word : ℕ) → Dec (Such word)) → Dec (SomeWord first count Such)
+pub decSomeWord : (first count : ℕ) (Such : ℕ → Type 0) → ((word : ℕ) → Dec (Such word)) → Dec (SomeWord first count Such)
 decSomeWord first count Such told =
     map-dec
     (λ some. (first + some .0, (omega arith, omega (arith, some .1)), some .2))

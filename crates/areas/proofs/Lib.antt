@@ -1,8 +1,8 @@
 mod Accesses
 mod Listed
-mod Chain
+pub mod Chain
 mod Across
-mod Deciding
+pub mod Deciding
 mod Looking
 mod Judging
 mod Contracts

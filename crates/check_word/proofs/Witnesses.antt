@@ -1,4 +1,4 @@
--- The damage law does not speak of nothing, and does not hold of more: damage of each kind to a frame of the manual, and
+-- There is damage of each kind, and not all damage is seen: damage of each kind to a frame of the manual, and
 -- four flips over 17 neighbouring line bits that leave a right check word.
 -- Assumes nothing.
 use mathlib.Core.Path.{_≡_, refl}
@@ -14,7 +14,7 @@ use Rattle.check_word.specs.CheckWord.{corrected, step, steps, addByte, 
 use Rattle.check_word.specs.Frame.{Bytes, Right}
 use Rattle.check_word.specs.Line.{bits, lineBits, differences, onesAt, differAt, window, Shown, two, odd, burst, Damaged}
 
-bytes-by : (xs : List ℕ) → areBytes xs ≡ true → Bytes xs
+pub bytes-by : (xs : List ℕ) → areBytes xs ≡ true → Bytes xs
 bytes-by [] t i = omega arith
 bytes-by (x ∷ xs) t zero = ltb-true x 256 (and-eq-true-iff (ltb x 256) (areBytes xs) .0 t .0)
 bytes-by (x ∷ xs) t (suc i) = bytes-by xs (and-eq-true-iff (ltb x 256) (areBytes xs) .0 t .1) i

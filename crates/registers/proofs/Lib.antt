@@ -1,10 +1,10 @@
 mod Places
-mod Bit
+pub mod Bit
 mod Numbers
-mod Shows
-mod Merge
-mod Stored
-mod Packed
+pub mod Shows
+pub mod Merge
+pub mod Stored
+pub mod Packed
 mod Filled
 mod Determined
 mod Words

@@ -42,7 +42,7 @@ shows-part w place width first memory n h s =
     (λ p below. ap memory (sym (add-assoc first place p)))
 
 -- the next b bits above the first a
-shows-join : (a b : ℕ) (run : ℕ → ℕ) (lo hi : ℕ) → Shows a run lo → Shows b (from a run) hi → Shows (a + b) run (hi * 2 ^ a + lo)
+pub shows-join : (a b : ℕ) (run : ℕ → ℕ) (lo hi : ℕ) → Shows a run lo → Shows b (from a run) hi → Shows (a + b) run (hi * 2 ^ a + lo)
 shows-join a b run lo hi s t =
     record {
       small = rw (add-comm a b, pow-add) (digits-lt (t .small) (s .small));

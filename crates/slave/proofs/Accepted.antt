@@ -21,11 +21,12 @@ use Rattle.slave.specs.declared.Station.{Station}
 use Rattle.slave.specs.declared.decide.Request.{Request}
 use Rattle.slave.specs.declared.decide.Decision.{Decision}
 use Rattle.slave.specs.declared.decide.Decision.the-variants.{Refused, Silent, Exception, Accepted}
-use Rattle.slave.specs.Numbers.{exception, accepted}
+use Rattle.slave.specs.Numbers.{Kind, exception, accepted}
 use Rattle.slave.specs.Conditions.{leastRoom, AddressedBy}
 use Rattle.slave.specs.Table.{FirstDecides, table}
 use Rattle.slave.specs.Deciding.{Reads, Decided, Some, wordsOf}
 use Rattle.slave.specs.Carrying.{Inside, Possible, CanBeDone}
+use Rattle.slave.proofs.Cases.{kindPlace}
 use Rattle.slave.proofs.Stable.{still-same, still-at-most, still-right}
 use Rattle.slave.proofs.Lines.{NoneApplies, skipped, none-applies}
 use Rattle.slave.proofs.Run.{words-addressed}
@@ -80,17 +81,16 @@ module _ (station : Station) (areas : AreaList) (words room : ℕ) (frame : List
   pub no-line : FirstDecides (table station areas words room frame) accepted → NoneApplies (table station areas words room frame)
   no-line = none-applies (table station areas words room frame) tt
 
-  -- a call that is answered with an exception is not refused
-  enough-room : (code : ℕ) → FirstDecides (table station areas words room frame) (exception code) → leastRoom ≤ room
-  enough-room code first =
-      let differ : _≢_ {A = ℕ} 2 0 = λ e. omega arith in
-      let behind-3 = skipped differ (skipped differ (skipped differ first .1) .1) .1 in
-      still-at-most _ _ (λ few. skipped differ behind-3 .0 (omega (arith, few)))
+  -- a call that is not refused has room enough
+  pub enough-room : (kind : Kind) → kindPlace kind ≢ 0 → FirstDecides (table station areas words room frame) kind → leastRoom ≤ room
+  enough-room kind other first =
+      let behind-3 = skipped other (skipped other (skipped other first .1) .1) .1 in
+      still-at-most _ _ (λ few. skipped other behind-3 .0 (omega (arith, few)))
 
   -- what was decided can be carried out
   pub can-be-done : (decision : Decision) → Decided (table station areas words room frame) station frame decision
       → CanBeDone station frame words room decision
   can-be-done (Refused why) decided = tt
   can-be-done (Silent why) decided = tt
-  can-be-done (Exception code) decided = enough-room (codeNumber code) (decided .kind)
+  can-be-done (Exception code) decided = enough-room (exception (codeNumber code)) (λ e. omega arith) (decided .kind)
   can-be-done (Accepted request) decided = (decided .fields, possible request (no-line (decided .kind)) (decided .fields))

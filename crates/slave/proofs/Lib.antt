@@ -1,10 +1,10 @@
-mod Cases
-mod Stable
-mod Lines
+pub mod Cases
+pub mod Stable
+pub mod Lines
 mod Run
-mod Judging
-mod Accepted
-mod Reply
+pub mod Judging
+pub mod Accepted
+pub mod Reply
 mod Acts
 mod Reasons
 mod Determined

@@ -3,6 +3,7 @@
 use mathlib.Core.Path.{_≡_}
 use mathlib.Core.List.{List, [], _∷_}
 use Prim.Native.Nat.{ℕ}
+use lib.ListN.{replicate}
 use Rattle.check_word.specs.CheckWord.{checkWord}
 use Rattle.registers.specs.Memory.{bit, imageWord, imageBit}
 use Rattle.areas.specs.declared.Access.{Access}
@@ -23,12 +24,16 @@ use Rattle.slave.specs.Answer.{Shown, StoredOne}
 abbrev pub words : List ℕ
 words = 0 ∷ 1000 ∷ 500 ∷ []
 
--- its areas (of the sixteen entries, the two that count)
 abbrev pub area : ℕ → ℕ → Access → Area
 area first count access = record { first = first; count = count; access = access }
 
+-- entries of a list with two areas that do not count
+abbrev pub unused : List Area
+unused = replicate 14 (area 0 0 ReadOnly)
+
+-- its areas
 abbrev pub areas : AreaList
-areas = record { entries = area 0 8 ReadWrite ∷ area 8 8 ReadOnly ∷ []; len = 2 }
+areas = record { entries = area 0 8 ReadWrite ∷ area 8 8 ReadOnly ∷ unused; len = 2 }
 
 -- the station, but counting as J-Bus does
 abbrev pub station : Station
