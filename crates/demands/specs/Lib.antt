@@ -1,0 +1,3 @@
+pub mod Terms
+pub mod Demands
+pub mod Laws
