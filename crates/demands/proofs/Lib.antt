@@ -22,3 +22,8 @@ mod Contracts
 mod Rebuilt
 mod Sufficing
 pub mod Laws
+mod Bench
+mod Image
+pub mod Witnesses
+pub mod Duds
+pub mod Slips
