@@ -27,11 +27,11 @@ words = 0 ∷ 1000 ∷ 500 ∷ []
 abbrev pub area : ℕ → ℕ → Access → Area
 area first count access = record { first = first; count = count; access = access }
 
--- entries of a list with two areas that do not count
+-- the fourteen entries that do not count, of a list with two areas
 abbrev pub unused : List Area
 unused = replicate 14 (area 0 0 ReadOnly)
 
--- its areas
+-- the bench station's areas
 abbrev pub areas : AreaList
 areas = record { entries = area 0 8 ReadWrite ∷ area 8 8 ReadOnly ∷ unused; len = 2 }
 
