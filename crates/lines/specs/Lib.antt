@@ -1,0 +1,6 @@
+pub mod Hex
+pub mod Lines
+pub mod Outcomes
+pub mod Laws
+pub mod Examples
+pub mod Places
