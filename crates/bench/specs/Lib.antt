@@ -1,0 +1,4 @@
+pub mod Bench
+pub mod Input
+pub mod Blocks
+pub mod Laws
