@@ -1,0 +1,82 @@
+//! The second program: an independent slave by document 01, its lists of calls, and comparisons with it.
+
+mod bench;
+mod bench_lines;
+mod bits;
+mod calls;
+mod check_word;
+mod compare;
+mod drawn;
+mod edges;
+mod hex;
+mod lines;
+mod lists;
+mod malformed;
+mod published;
+mod random;
+mod slave;
+mod stored;
+mod tally;
+
+use std::io::{self, BufWriter, Write};
+use std::process::ExitCode;
+
+const USAGE: &str = "\
+usage: second bench                               the bench program
+       second cases                               answers whole calls
+       second input bench|lines|cases             writes a stored input
+       second drawn SEED COUNT                    writes drawn calls
+       second compare SEED COUNT PROGRAM [ARG]..  drawn calls against `cases` of another program
+       second compare-bench PROGRAM [ARG]..       the lines against another bench program
+";
+
+/// Whether all was as it should be; none for a wrong command.
+fn run(words: &[&str], output: &mut impl Write) -> io::Result<Option<bool>> {
+    let input = io::stdin().lock();
+    let mut fine = true;
+    match words {
+        ["bench"] => lines::run(bench::Bench::new(), input, &mut *output)?,
+        ["cases"] => lines::run(calls::Calls::new(), input, &mut *output)?,
+        ["input", "bench"] => output.write_all(bench::INPUT.as_bytes())?,
+        ["input", "lines"] => output.write_all(&bench_lines::input())?,
+        ["input", "cases"] => stored::write(output)?,
+        ["drawn", seed, count] => match (seed.parse(), count.parse()) {
+            (Ok(seed), Ok(count)) => compare::write_drawn(seed, count, output)?,
+            _ => return Ok(None),
+        },
+        ["compare", seed, count, program @ ..] if !program.is_empty() => {
+            match (seed.parse(), count.parse()) {
+                (Ok(seed), Ok(count)) => fine = compare::drawn(seed, count, program, output)?,
+                _ => return Ok(None),
+            }
+        }
+        ["compare-bench", program @ ..] if !program.is_empty() => {
+            fine = compare::bench(program, output)?;
+        }
+        _ => return Ok(None),
+    }
+    output.flush()?;
+    Ok(Some(fine))
+}
+
+fn main() -> ExitCode {
+    let words: Vec<String> = std::env::args_os()
+        .skip(1)
+        .map(|word| word.to_string_lossy().into_owned())
+        .collect();
+    let words: Vec<&str> = words.iter().map(String::as_str).collect();
+    let mut output = BufWriter::with_capacity(1 << 16, io::stdout().lock());
+    match run(&words, &mut output) {
+        Ok(Some(true)) => ExitCode::SUCCESS,
+        Ok(Some(false)) => ExitCode::FAILURE,
+        Ok(None) => {
+            eprint!("{USAGE}");
+            ExitCode::from(2)
+        }
+        Err(error) if error.kind() == io::ErrorKind::BrokenPipe => ExitCode::SUCCESS,
+        Err(error) => {
+            eprintln!("second: {error}");
+            ExitCode::FAILURE
+        }
+    }
+}
