@@ -9,7 +9,7 @@ use lib.ListN.{length}
 use Rattle.areas.specs.declared.Area.{Area}
 use Rattle.areas.specs.Holding.{endOf, areaAt, EachTwo}
 use Rattle.areas.specs.Rules.{AtMostSixteen, NoneEmpty, Ascend, NoneOverlap, RulesKept}
-use Rattle.areas.specs.Following.{Follows}
+use Rattle.areas.specs.Following.{Follows, endBefore, Chain}
 
 -- ---- each area ends where a later one starts, or before
 
@@ -37,28 +37,23 @@ rules-in-order {words} {areas} kept = kept-in-order areas (kept .none-empty) (ke
 
 -- ---- the first n areas, each of which follows the one before it
 
--- the word behind the area before area i
-abbrev pub endBefore : List Area → ℕ → ℕ
-endBefore areas zero = 0
-endBefore areas (suc i) = endOf (areaAt areas i)
-
-abbrev pub Chain : ℕ → List Area → ℕ → Type 0
-Chain words areas n = (i : ℕ) → i < n → Follows words (endBefore areas i) (areaAt areas i)
-
 module _ (words : ℕ) (areas : List Area) where
   pub chain-next : (n : ℕ) → Chain words areas n → Follows words (endBefore areas n) (areaAt areas n) → Chain words areas (n + 1)
   chain-next n chain next i h =
       elim (decLe n i) [ yes m ↦ let e : i ≡ n = omega arith in rw e next | no m ↦ chain i (omega arith) ]
 
+  -- the first n areas end where the next one may start, or before
+  pub chain-behind : (n : ℕ) → Chain words areas n → (i : ℕ) → i < n → endOf (areaAt areas i) ≤ endBefore areas n
+  chain-behind zero chain i h = absurd (omega arith)
+  chain-behind (suc n) chain i h =
+      elim (decLe n i) [
+        | yes m ↦ let e : i ≡ n = omega arith in rw e (omega arith)
+        | no m ↦ omega (arith, chain-behind n (λ k l. chain k (omega arith)) i (omega arith), chain n (omega arith) .behind)
+      ]
+
   module _ (chain : Chain words areas (length areas)) where
     chain-in-order : InOrder areas
-    chain-in-order i zero l h = absurd (omega arith)
-    chain-in-order i (suc j) l h =
-        let last = chain (suc j) h in
-        elim (decLe j i) [
-          | yes m ↦ let e : i ≡ j = omega arith in rw e (last .behind)
-          | no m ↦ omega (arith, chain-in-order i j (omega arith) (omega arith), last .behind)
-        ]
+    chain-in-order i j l h = omega (arith, chain-behind j (λ k m. chain k (omega arith)) i l, chain j h .behind)
 
     pub chain-some : NoneEmpty areas
     chain-some i h = chain i h .some-word

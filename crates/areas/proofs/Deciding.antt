@@ -1,4 +1,4 @@
--- Whether an area of a list, or a word of a run, is such, can be decided.
+-- Whether an area of a list, or a word of a run, is such, can be decided, and whether a list keeps the rules.
 -- Assumes nothing.
 use mathlib.Core.Path.{_≡_}
 use mathlib.Core.Logic.{Dec·and, Dec·not}
@@ -10,9 +10,12 @@ use lib.ListN.{length}
 use Rattle.areas.specs.declared.Access.{Access}
 use Rattle.areas.specs.declared.Access.the-variants.{ReadOnly}
 use Rattle.areas.specs.declared.Area.{Area}
-use Rattle.areas.specs.Holding.{Holds, areaAt, Addressable, InNoArea, OfAreaWith}
+use Rattle.areas.specs.Holding.{Holds, endOf, areaAt, Addressable, InNoArea, OfAreaWith}
+use Rattle.areas.specs.Rules.{mostAreas, RulesKept}
 use Rattle.areas.specs.Verdicts.{SomeWord, SomeWordInNoArea, SomeWordReadOnly}
+use Rattle.areas.specs.Following.{Follows, endBefore}
 use Rattle.areas.proofs.Accesses.{decAccess}
+use Rattle.areas.proofs.Chain.{chain-kept, kept-chain}
 
 -- of the numbers below n, one is such, or none
 pub some-below : (n : ℕ) (Such : ℕ → Type 0) → ((i : ℕ) → Dec (Such i)) → Dec ((i : ℕ) × (i < n) × Such i)
@@ -57,3 +60,25 @@ decInNoArea areas first count = decSomeWord first count (InNoArea areas) (λ wor
 
 pub decReadOnly : (areas : List Area) (first count : ℕ) → Dec (SomeWordReadOnly areas first count)
 decReadOnly areas first count = decSomeWord first count (OfAreaWith ReadOnly areas) (decOfAreaWith ReadOnly areas)
+
+-- ---- the rules
+
+-- each number below n is such, or one is not
+each-below : (n : ℕ) (Such : ℕ → Type 0) → ((i : ℕ) → Dec (Such i)) → Dec ((i : ℕ) → i < n → Such i)
+each-below n Such told =
+    elim (some-below n (λ i. Such i → ⊥) (λ i. Dec·not (told i))) [
+      | yes some ↦ no (λ each. some .2 (each (some .0) (some .1)))
+      | no none ↦ yes (λ i h. elim (told i) [ yes such ↦ such | no not ↦ absurd (none (i, h, not)) ])
+    ]
+
+decFollows : (words from : ℕ) (area : Area) → Dec (Follows words from area)
+decFollows words from area =
+    map-dec (λ all. record { some-word = all .0; behind = all .1 .0; inside = all .1 .1 })
+    (λ follows. (follows .some-word, (follows .behind, follows .inside)))
+    (Dec·and (decLe 1 (area .count)) (Dec·and (decLe from (area .first)) (decLe (endOf area) words)))
+
+pub decRulesKept : (words : ℕ) (areas : List Area) → Dec (RulesKept words areas)
+decRulesKept words areas =
+    map-dec (λ both. chain-kept words areas (both .1) (both .0)) (λ kept. (kept .at-most-sixteen, kept-chain words areas kept))
+    (Dec·and (decLe (length areas) mostAreas)
+    (each-below (length areas) _ (λ i. decFollows words (endBefore areas i) (areaAt areas i))))

@@ -1,20 +1,24 @@
 -- The laws of the areas, each under the name that it has in specs/Laws.antt.
 -- Assumes nothing.
-use mathlib.Core.Path.{_≡_, refl}
+use mathlib.Core.Path.{_≡_, refl, ap}
 use mathlib.Core.Logic.{_↔_}
-use mathlib.Core.Bool.{true, false}
+use mathlib.Core.List.{_++_}
 use Prim.Native.Nat.{ℕ, _+_, _-_, _≤_, _<_}
 use native.Mathlib.Decide.{decLe}
 use native.Mathlib.Omega.{arith}
-use Rattle.promise.proofs.Promise.{decides-determined}
+use lib.ListN.{length, replicate, length-append, length-replicate}
+use lib.Seq.{take-append-seam}
 use Rattle.areas.specs.declared.Access.the-variants.{ReadOnly}
 use Rattle.areas.specs.declared.Area.{Area}
-use Rattle.areas.specs.Holding.{Holds, endOf, areaAt, SomeArea}
+use Rattle.areas.specs.declared.Finding.the-variants.{BreaksARule, Keeps}
+use Rattle.areas.specs.Holding.{Holds, endOf, emptyArea, areaAt, SomeArea}
+use Rattle.areas.specs.Calls.{listEntries}
 use Rattle.areas.specs.Laws as laws
 use Rattle.areas.proofs.Accesses.{not-both}
 use Rattle.areas.proofs.Across.{hole, no-earlier, no-hole}
 use Rattle.areas.proofs.Chain.{in-order-ascend, in-order-apart, rules-in-order}
-use Rattle.areas.proofs.Deciding.{decAddressable}
+use Rattle.areas.proofs.Deciding.{decAddressable, decRulesKept}
+use Rattle.areas.proofs.Listed.{listed-length}
 use Rattle.areas.proofs.Judging.{judged-determined, judged-exists, each-read-write, judged-map, some-area-map}
 
 -- ---- a list that keeps the rules
@@ -104,16 +108,34 @@ OrderIgnored a b first count in-b in-a =
     both : (Such : Area → Type 0) → SomeArea a Such ↔ SomeArea b Such
     both Such = (some-area-map a b Such in-b, some-area-map b a Such in-a)
 
--- ---- a list by value
+-- ---- a survey
 
 pub OverSixteen : laws.OverSixteen
-OverSixteen list words true over kept = absurd (omega (arith, kept .0))
-OverSixteen list words false over kept = refl
+OverSixteen areas words run BreaksARule over broken = refl
+OverSixteen areas words run (Keeps verdict) over (kept, judged) = absurd (omega (arith, kept .at-most-sixteen))
 
--- ---- the promise of each public function determines its answer
+pub FindingExists : laws.FindingExists
+FindingExists areas words run =
+    elim (decRulesKept words areas) [
+      | yes kept ↦ let (verdict, judged) = VerdictExists areas (run .first) (run .count) in (Keeps verdict, (kept, judged))
+      | no broken ↦ (BreaksARule, broken)
+    ]
 
-pub KeepsRulesDetermined : laws.KeepsRulesDetermined
-KeepsRulesDetermined list words = decides-determined _
+pub SurveyDetermined : laws.SurveyDetermined
+SurveyDetermined areas words run BreaksARule BreaksARule p q = refl
+SurveyDetermined areas words run BreaksARule (Keeps verdict) p q = absurd (p (q .0))
+SurveyDetermined areas words run (Keeps verdict) BreaksARule p q = absurd (q (p .0))
+SurveyDetermined areas words run (Keeps x) (Keeps y) p q = ap Keeps (judged-determined areas (run .first) (run .count) x y (p .1) (q .1))
 
-pub JudgeDetermined : laws.JudgeDetermined
-JudgeDetermined list first count = judged-determined _ first count
+-- ---- a list by value
+
+pub ListedTooLong : laws.ListedTooLong
+ListedTooLong list entries over = omega (arith, listed-length list entries)
+
+pub ListedBySome : laws.ListedBySome
+ListedBySome areas few =
+    let room = listEntries - length areas in (
+      record { entries = areas ++ replicate room emptyArea; len = length areas },
+      omega (arith, length-append areas (replicate room emptyArea), length-replicate room emptyArea),
+      take-append-seam areas (replicate room emptyArea),
+    )

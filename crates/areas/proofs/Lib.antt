@@ -1,5 +1,5 @@
 mod Accesses
-mod Listed
+pub mod Listed
 pub mod Chain
 mod Across
 pub mod Deciding

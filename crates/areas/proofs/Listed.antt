@@ -1,16 +1,24 @@
 -- The areas of a list by value.
 -- Assumes nothing.
-use mathlib.Core.Path.{_≡_, ap, _∙_}
-use Prim.Native.Nat.{ℕ, _<_, min}
-use lib.ListN.{length, length-take}
-use lib.Seq.{getD-take}
+use mathlib.Core.Path.{_≡_, sym, ap, _∙_}
+use Prim.Native.Nat.{min}
+use native.Mathlib.Decide.{decLe}
+use native.Mathlib.Omega.{arith}
+use lib.ListN.{length, take, length-take}
+use lib.Seq.{take-all}
 use Rattle.areas.specs.declared.AreaList.{AreaList}
-use Rattle.areas.specs.Holding.{emptyArea, areaAt}
-use Rattle.areas.specs.Rules.{mostAreas}
-use Rattle.areas.specs.Calls.{listed}
+use Rattle.areas.specs.Calls.{listEntries, listed}
 
-pub listed-length : (list : AreaList) → length (list .entries) ≡ mostAreas → length (listed list) ≡ min (list .len) mostAreas
+pub listed-length : (list : AreaList) → length (list .entries) ≡ listEntries → length (listed list) ≡ min (list .len) listEntries
 listed-length list e = length-take (list .len) (list .entries) ∙ ap (min (list .len)) e
 
-pub listed-at : (list : AreaList) (i : ℕ) → i < list .len → areaAt (listed list) i ≡ areaAt (list .entries) i
-listed-at list i h = getD-take (list .len) (list .entries) i emptyArea h
+-- a length over that of the entries counts as theirs
+pub listed-used : (list : AreaList) → length (list .entries) ≡ listEntries
+    → take (min (list .len) listEntries) (list .entries) ≡ listed list
+listed-used list e =
+    elim (decLe (list .len) listEntries) [
+      | yes few ↦ let same : min (list .len) listEntries ≡ list .len = omega arith in ap (λ n. take n (list .entries)) same
+      | no many ↦
+          take-all (min (list .len) listEntries) (list .entries) (omega arith)
+          ∙ sym (take-all (list .len) (list .entries) (omega arith))
+    ]

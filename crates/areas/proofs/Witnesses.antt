@@ -13,7 +13,8 @@ use Rattle.areas.specs.Holding.{Holds, areaAt, Addressable}
 use Rattle.areas.specs.Rules.{NoneEmpty, Ascend, NoneOverlap, EndInside, RulesKept}
 use Rattle.areas.specs.Verdicts.{Judged}
 use Rattle.areas.proofs.Accesses.{not-both}
-use Rattle.areas.proofs.Chain.{Chain, chain-some, chain-ascend, chain-apart, chain-kept, two-kept}
+use Rattle.areas.specs.Following.{Chain}
+use Rattle.areas.proofs.Chain.{chain-some, chain-ascend, chain-apart, chain-kept, two-kept}
 use Rattle.areas.proofs.Laws as laws
 
 abbrev area : ℕ → ℕ → Access → Area

@@ -1,27 +1,25 @@
--- What each call promises, of a list by value.
+-- What `survey` promises, and the areas of a list by value.
 -- Assumes nothing.
-use mathlib.Core.Bool.{Bool}
 use mathlib.Core.List.{List}
-use Prim.Native.Nat.{ℕ, _≤_}
+use Prim.Native.Nat.{ℕ}
 use lib.ListN.{take}
-use Rattle.promise.specs.Promise.{Decides}
 use Rattle.areas.specs.declared.Area.{Area}
 use Rattle.areas.specs.declared.AreaList.{AreaList}
-use Rattle.areas.specs.declared.Verdict.{Verdict}
-use Rattle.areas.specs.Rules.{mostAreas, RulesKept}
+use Rattle.areas.specs.declared.Run.{Run}
+use Rattle.areas.specs.declared.Finding.{Finding}
+use Rattle.areas.specs.declared.Finding.the-variants.{BreaksARule, Keeps}
+use Rattle.areas.specs.Rules.{RulesKept}
 use Rattle.areas.specs.Verdicts.{Judged}
 
--- the areas of a list by value: the first `len` of its sixteen entries, and if `len` is over 16, all of them
+-- the list breaks a rule, or it keeps them all, and this is its verdict on the run
+abbrev pub Survey : List Area → ℕ → Run → Finding → Type 0
+Survey areas words run BreaksARule = RulesKept words areas → ⊥
+Survey areas words run (Keeps verdict) = RulesKept words areas × Judged areas (run .first) (run .count) verdict
+
+-- a list by value has seventeen entries, one more than a list may have ..
+abbrev pub listEntries : ℕ
+listEntries = 17
+
+-- .. and its areas are the first `len` of them (all of them, if `len` is over 17: too many as well)
 abbrev pub listed : AreaList → List Area
 listed list = take (list .len) (list .entries)
-
--- a length over 16 breaks the rules, whatever the entries (said by itself, since `listed` never has more than sixteen areas)
-abbrev pub ListKept : AreaList → ℕ → Type 0
-ListKept list words = (list .len ≤ mostAreas) × RulesKept words (listed list)
-
-abbrev pub KeepsRules : AreaList → ℕ → Bool → Type 0
-KeepsRules list words = Decides (ListKept list words)
-
--- a list has its verdicts whether it keeps the rules or not
-abbrev pub Judge : AreaList → ℕ → ℕ → Verdict → Type 0
-Judge list first count = Judged (listed list) first count

@@ -2,7 +2,6 @@
 -- Assumes nothing.
 use mathlib.Core.Path.{_≡_}
 use mathlib.Core.Logic.{_↔_}
-use mathlib.Core.Bool.{Bool, false}
 use mathlib.Core.List.{List}
 use Prim.Native.Nat.{ℕ, _+_, _≤_, _<_}
 use lib.ListN.{length}
@@ -10,12 +9,15 @@ use Rattle.promise.specs.Promise.{Determined}
 use Rattle.areas.specs.declared.Access.the-variants.{ReadOnly, ReadWrite}
 use Rattle.areas.specs.declared.Area.{Area}
 use Rattle.areas.specs.declared.AreaList.{AreaList}
+use Rattle.areas.specs.declared.Run.{Run}
+use Rattle.areas.specs.declared.Finding.{Finding}
+use Rattle.areas.specs.declared.Finding.the-variants.{BreaksARule}
 use Rattle.areas.specs.declared.Verdict.{Verdict}
 use Rattle.areas.specs.declared.Verdict.the-variants.{AllReadWrite}
 use Rattle.areas.specs.Holding.{Holds, endOf, areaAt, SomeArea, EachArea, EachTwo, Addressable, OfAreaWith}
 use Rattle.areas.specs.Rules.{mostAreas, AtMostSixteen, NoneEmpty, EndInside, RulesKept, Touch}
 use Rattle.areas.specs.Verdicts.{EachWord, SomeWordInNoArea, Judged}
-use Rattle.areas.specs.Calls.{KeepsRules, Judge}
+use Rattle.areas.specs.Calls.{Survey, listEntries, listed}
 
 -- ---- a list that keeps the rules
 
@@ -87,16 +89,28 @@ OrderIgnored = (a b : List Area) (first count : ℕ) → EachArea a (λ area. So
     → EachArea b (λ area. SomeArea a (λ other. other ≡ area))
     → (x y : Verdict) → Judged a first count x → Judged b first count y → x ≡ y
 
+-- ---- a survey
+
+-- what is found of a list that is too long
+abbrev pub OverSixteen : Type 0
+OverSixteen = (areas : List Area) (words : ℕ) (run : Run) (finding : Finding) → mostAreas < length areas
+    → Survey areas words run finding → finding ≡ BreaksARule
+
+-- there is a finding ..
+abbrev pub FindingExists : Type 0
+FindingExists = (areas : List Area) (words : ℕ) (run : Run) → (finding : Finding) × Survey areas words run finding
+
+-- .. and only one: the promise determines its answer
+abbrev pub SurveyDetermined : Type 0
+SurveyDetermined = (areas : List Area) (words : ℕ) (run : Run) → Determined (Survey areas words run)
+
 -- ---- a list by value
 
--- one with a length over 16 breaks the rules
-abbrev pub OverSixteen : Type 0
-OverSixteen = (list : AreaList) (words : ℕ) (r : Bool) → mostAreas < list .len → KeepsRules list words r → r ≡ false
+-- one with a length over 16 has too many areas, whatever its entries (an array of the source has its length: `entries` is 17)
+abbrev pub ListedTooLong : Type 0
+ListedTooLong = (list : AreaList) → length (list .entries) ≡ listEntries → mostAreas < list .len → mostAreas < length (listed list)
 
--- ---- the promise of each public function determines its answer
-
-abbrev pub KeepsRulesDetermined : Type 0
-KeepsRulesDetermined = (list : AreaList) (words : ℕ) → Determined (KeepsRules list words)
-
-abbrev pub JudgeDetermined : Type 0
-JudgeDetermined = (list : AreaList) (first count : ℕ) → Determined (Judge list first count)
+-- every list of at most 16 areas can be given by value
+abbrev pub ListedBySome : Type 0
+ListedBySome = (areas : List Area) → AtMostSixteen areas
+    → (list : AreaList) × (length (list .entries) ≡ listEntries) × (listed list ≡ areas)

@@ -1,18 +1,16 @@
 // The areas of a station: which words of the image are addressable, and which of them may be written.
-// No public function has a `requires`. The public contracts cite specs/Calls.antt.
+// No public function has a `requires`. `survey`'s contract cites specs/Calls.antt.
+mod following;
 mod search;
 
 use search::Search;
-ghost use mathlib.Core.Path.{_≡_};
-ghost use Prim.Native.Nat.{min};
-ghost use Rattle.promise.specs.Promise.{Decides};
-ghost use Rattle.areas.specs.Holding.{endOf};
-ghost use Rattle.areas.specs.Rules.{mostAreas};
-ghost use Rattle.areas.specs.Calls.{KeepsRules, Judge};
-ghost use Rattle.areas.specs.Following.{Follows};
+ghost use Rattle.areas.specs.Calls.{Survey};
 
 // The most areas that a list may have.
 pub const MOST_AREAS: usize = 16;
+
+// The entries of a list by value: one more than a list may have, so that a list that is too long can be given, and is refused.
+pub const LIST_ENTRIES: usize = 17;
 
 pub enum Access {
     ReadOnly,
@@ -28,8 +26,14 @@ pub struct Area {
 
 // A list of areas by value: the first `len` of the entries.
 pub struct AreaList {
-    pub entries: [Area; MOST_AREAS],
+    pub entries: [Area; LIST_ENTRIES],
     pub len: usize,
+}
+
+// `count` words from word `first` on, of which a list is asked.
+pub struct Run {
+    pub first: u16,
+    pub count: u16,
 }
 
 // What is found of the words of a run.
@@ -42,65 +46,25 @@ pub enum Verdict {
     AllReadWrite,
 }
 
-// The word behind the last one of an area.
-pub(crate) fn end_of(area: Area) -> usize
-    ensures { λ r. ⌜ r ≡ endOf area ⌝ }
-{
-    area.first as usize + area.count as usize
-}
-
-// Whether an area has a word, starts no earlier than word `from`, and ends inside an image of `words` words.
-fn follows(area: Area, from: usize, words: usize) -> bool
-    ensures { λ r. ⌜ Decides (Follows words from area) r ⌝ }
-{
-    if area.count < 1 {
-        return false;
-    }
-    if (area.first as usize) < from {
-        return false;
-    }
-    if words < end_of(area) {
-        return false;
-    }
-    true
+// What is found of a list.
+pub enum Finding {
+    // It breaks a rule.
+    BreaksARule,
+    // It keeps the rules, and this is its verdict on the run.
+    Keeps(Verdict),
 }
 
 // Whether the list keeps the rules for an image of `words` words: it has at most 16 areas, each has a word, they ascend, don't
-// overlap, and end inside the image.
-pub fn keeps_rules(list: AreaList, words: usize) -> bool
-    ensures { λ r. ⌜ KeepsRules list words r ⌝ }
+// overlap, and end inside the image. And if it does, its verdict on the run; a run of no words is all read-write.
+pub fn survey(areas: &[Area], words: usize, run: Run) -> Finding
+    ensures { λ r. ⌜ Survey (now (areas .entry)) words run r ⌝ }
 {
-    if MOST_AREAS < list.len {
-        return false;
-    }
-    let mut from = 0;
+    let mut s = Search::begin(areas.len(), words, run);
+    let n = search::to_look_at(areas.len());
     let mut i = 0;
-    while i < list.len {
-        let area = list.entries[i];
-        if !follows(area, from, words) {
-            return false;
-        }
-        from = end_of(area);
+    while i < n {
+        s = s.look(areas[i]);
         i += 1;
     }
-    true
-}
-
-// How many of the entries are areas of the list: with a length over 16, all sixteen.
-fn used(len: usize) -> usize
-    ensures { λ r. ⌜ r ≡ min len mostAreas ⌝ }
-{
-    if len < MOST_AREAS { len } else { MOST_AREAS }
-}
-
-// The verdict on the run of `count` words from `first` on. The list may break the rules; a run of no words is all read-write.
-pub fn judge(list: AreaList, first: u16, count: u16) -> Verdict
-    ensures { λ r. ⌜ Judge list first count r ⌝ }
-{
-    let mut s = Search::begin(first, count, used(list.len));
-    while s.next < s.len {
-        let i = s.next;
-        s = s.look(list.entries[i]).again();
-    }
-    s.verdict()
+    s.finding()
 }

@@ -1,55 +1,65 @@
-// A search of a list of areas for the words of a run, one area at a time. The list is begun again as long as the last pass
-// reached more words and some are left: never, if the list keeps the rules and the run has no hole.
+// A search of a list of areas, one area at a time: whether they keep the rules, and how much of a run they hold. Areas that keep
+// the rules ascend, so one pass is enough; behind one that breaks a rule nothing more is found out.
 use super::Access;
 use super::Area;
+use super::Finding;
+use super::MOST_AREAS;
+use super::Run;
 use super::Verdict;
-use super::end_of;
-ghost use Prim.Native.Nat.{_<_};
+use super::following::end_of;
+use super::following::follows;
+ghost use Prim.Native.Nat.{_≤_};
 ghost use Rattle.promise.specs.Promise.{Decides};
-ghost use Rattle.areas.specs.Search.{Begun, Past, Meets, Looked, Again, Concluded};
+ghost use Rattle.areas.specs.Search.{Enough, Begun, Past, Meets, Looked, Judges, Concluded};
 
 pub(crate) struct Search {
+    // the words of the image
+    pub words: usize,
     // the run: its first word, and the one behind its last
     pub first: usize,
     pub end: usize,
-    // how many areas the list has, and which one to look at next
-    pub len: usize,
-    pub next: usize,
+    // no rule was found broken
+    pub kept: bool,
+    // the word behind the last area that kept the rules
+    pub from: usize,
     // each word of the run before this one is in some area
     pub reached: usize,
-    // the word that was reached when the list was last begun
-    pub begun: usize,
     // some area that was looked at is read-only and holds a word of the run
     pub read_only: bool,
 }
 
+// How many areas to look at: of a list that is too long, none.
+pub(crate) fn to_look_at(len: usize) -> usize
+    ensures { λ r. ⌜ Enough len r ⌝ }
+{
+    if MOST_AREAS < len { 0 } else { len }
+}
+
 impl Search {
-    // A search that has looked at no area.
-    pub(crate) fn begin(first: u16, count: u16, len: usize) -> Self
-        ensures { λ r. ⌜ Begun first count len r ⌝ }
+    // A search, in a list of `len` areas, that has looked at none.
+    pub(crate) fn begin(len: usize, words: usize, run: Run) -> Self
+        ensures { λ r. ⌜ Begun len words run r ⌝ }
     {
         Search {
-            first: first as usize,
-            end: first as usize + count as usize,
-            len,
-            next: 0,
-            reached: first as usize,
-            begun: first as usize,
+            words,
+            first: run.first as usize,
+            end: run.first as usize + run.count as usize,
+            kept: len <= MOST_AREAS,
+            from: 0,
+            reached: run.first as usize,
             read_only: false,
         }
     }
 
     // Whether the area holds a word of the run.
     fn meets(self, area: Area) -> bool
+        requires { ⌜ 1 ≤ area .count ⌝ }
         ensures { λ r. ⌜ Decides (Meets area (self .first) (self .end)) r ⌝ }
     {
         if self.end <= area.first as usize {
             return false;
         }
         if end_of(area) <= self.first {
-            return false;
-        }
-        if area.count < 1 {
             return false;
         }
         if self.end <= self.first {
@@ -71,12 +81,18 @@ impl Search {
         self.reached
     }
 
-    // A look at `area`, the one at `next`.
+    // A look at the next area.
     pub(crate) fn look(mut self, area: Area) -> Self
-        requires { ⌜ self .next < self .len ⌝ }
         ensures { λ r. ⌜ Looked self area r ⌝ }
     {
-        self.next += 1;
+        if !self.kept {
+            return self;
+        }
+        if !follows(area, self.from, self.words) {
+            self.kept = false;
+            return self;
+        }
+        self.from = end_of(area);
         if !self.meets(area) {
             return self;
         }
@@ -90,28 +106,9 @@ impl Search {
         self
     }
 
-    // At the end of the list: begins it again if words were reached since it was begun and some are left, since an area may hold
-    // a word that was not yet reached when it was looked at.
-    pub(crate) fn again(mut self) -> Self
-        ensures { λ r. ⌜ Again self r ⌝ }
-    {
-        if self.next < self.len {
-            return self;
-        }
-        if self.reached <= self.begun {
-            return self;
-        }
-        if self.end <= self.reached {
-            return self;
-        }
-        self.begun = self.reached;
-        self.next = 0;
-        self
-    }
-
-    // The verdict of a search that has come to its end.
-    pub(crate) fn verdict(self) -> Verdict
-        ensures { λ r. ⌜ Concluded self r ⌝ }
+    // The verdict of a search that has looked at all areas.
+    fn verdict(self) -> Verdict
+        ensures { λ r. ⌜ Judges self r ⌝ }
     {
         if self.reached < self.end {
             return Verdict::SomeInNoArea;
@@ -120,5 +117,15 @@ impl Search {
             return Verdict::SomeReadOnly;
         }
         Verdict::AllReadWrite
+    }
+
+    // What it has found.
+    pub(crate) fn finding(self) -> Finding
+        ensures { λ r. ⌜ Concluded self r ⌝ }
+    {
+        if !self.kept {
+            return Finding::BreaksARule;
+        }
+        Finding::Keeps(self.verdict())
     }
 }

@@ -9,6 +9,7 @@ use slave::Station;
 ghost use mathlib.Core.Path.{_≡_};
 ghost use Prim.Native.Nat.{_≤_, _<_};
 ghost use lib.ListN.{length};
+ghost use Rattle.areas.specs.Calls.{listed};
 ghost use Rattle.slave.specs.Examples.{areas as Examples·areas};
 ghost use Rattle.lines.specs.Hex.{longestLine};
 ghost use Rattle.bench.specs.Input.{LastAnswered};
@@ -38,14 +39,14 @@ pub(crate) fn registers_at_first() -> [u16; 16]
 
 // Words 0 to 7 read-write, 8 to 15 read-only.
 fn two_areas() -> AreaList
-    ensures { λ r. ⌜ r ≡ Examples·areas ⌝ }
+    ensures { λ r. ⌜ listed r ≡ Examples·areas ⌝ }
 {
     let unused = Area {
         first: 0,
         count: 0,
         access: Access::ReadOnly,
     };
-    let mut entries = [unused; areas::MOST_AREAS];
+    let mut entries = [unused; areas::LIST_ENTRIES];
     entries[0] = Area {
         first: 0,
         count: 8,
@@ -70,7 +71,7 @@ fn answer_frame(frame: &[u8], image: &mut [u16], text: &mut [u8]) -> usize
         state: State::Ready,
     };
     let mut reply = [0u8; slave::LEAST_ROOM];
-    let outcome = slave::respond(station, two_areas(), frame, image, &mut reply);
+    let outcome = slave::respond_by_value(station, two_areas(), frame, image, &mut reply);
     lines::write_outcome(outcome, &reply, text)
 }
 

@@ -39,7 +39,7 @@ fn call(
     let station = case.station;
     let list = case.list;
     let n = case.room;
-    let outcome = slave::respond(
+    let outcome = slave::respond_by_value(
         station,
         list,
         cut::front(frame, case.length),

@@ -4,7 +4,7 @@ use crate::cut;
 use areas::Access;
 use areas::Area;
 use areas::AreaList;
-use areas::MOST_AREAS;
+use areas::LIST_ENTRIES;
 use lines::Line;
 use lines::MOST_BYTES;
 use slave::Counting;
@@ -128,7 +128,7 @@ fn state_of(place: usize) -> State {
     }
 }
 
-// Reads the areas and their bar. Of more than sixteen the first sixteen are kept, and all are counted.
+// Reads the areas and their bar. Of more than seventeen, which is too many, the first seventeen are kept, and all are counted.
 fn areas(line: &[u8], c: Cursor) -> AreasPart {
     let unused = Area {
         first: 0,
@@ -136,7 +136,7 @@ fn areas(line: &[u8], c: Cursor) -> AreasPart {
         access: Access::ReadOnly,
     };
     let mut list = AreaList {
-        entries: [unused; MOST_AREAS],
+        entries: [unused; LIST_ENTRIES],
         len: 0,
     };
     let mut next = c.letter(line, b"|");
@@ -147,7 +147,7 @@ fn areas(line: &[u8], c: Cursor) -> AreasPart {
     for k in 0..line.len() {
         let one = area(line, next);
         let found = one.area;
-        if k < MOST_AREAS {
+        if k < LIST_ENTRIES {
             list.entries[k] = found;
         }
         list.len = k + 1;

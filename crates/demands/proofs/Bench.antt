@@ -9,7 +9,6 @@ use lib.ListN.{length, drop}
 use Rattle.check_word.specs.Frame.{shortest, longest, framed}
 use Rattle.check_word.proofs.Laws as check-word
 use Rattle.registers.specs.Packing.{highFirst}
-use Rattle.areas.specs.Calls.{listed}
 use Rattle.areas.specs.declared.Verdict.{Verdict}
 use Rattle.areas.specs.declared.Verdict.the-variants.{AllReadWrite}
 use Rattle.areas.proofs.Witnesses as areas-of
@@ -68,7 +67,7 @@ pub image-sized : (_≡_ {A = ℕ} 16 0) ⊎ (mostImageWords < 16) → ⊥
 image-sized = ⊎-elim (λ e. omega arith) (λ h. omega arith)
 
 pub areas-kept : BreaksARule areas 16 → ⊥
-areas-kept broken = broken (omega arith, areas-of.bench-kept)
+areas-kept broken = broken areas-of.bench-kept
 
 -- ---- lines 10 and 11
 
@@ -169,7 +168,7 @@ below-8 Bit first count word inside (bit, among, of) = omega arith
 below-8 Word first count word inside among = omega arith
 
 all-read-write : (width : Width) (first count : ℕ) → Inside width 8 first count
-    → JudgedBy (listed areas) (AddressedBy width first count) AllReadWrite
+    → JudgedBy areas (AddressedBy width first count) AllReadWrite
 all-read-write width first count inside = (
   λ (word, addressed, none). areas-of.bench-0-to-7 .0 (word, (omega arith, below-8 width first count word inside addressed), none),
   λ (word, addressed, of). areas-of.bench-0-to-7 .1 (word, (omega arith, below-8 width first count word inside addressed), of),
@@ -203,7 +202,7 @@ module _ (counting : Counting) (act : Act) (width : Width) (function first : ℕ
   module _ (fits : length rest ≤ 250) (long : length asked ≡ requestLength act asked) (some : 1 ≤ quantity act asked)
       (at-most : quantity act asked ≤ most act width) (limits : Limits act width asked) where
     -- a verdict on the addressed words decides
-    pub by-judging : (verdict : Verdict) → JudgedBy (listed areas) (AddressedBy width first (quantity act asked)) verdict
+    pub by-judging : (verdict : Verdict) → JudgedBy areas (AddressedBy width first (quantity act asked)) verdict
         → FirstDecides (linesOf (bench counting Ready asked))
         (kindDecided (byVerdict verdict (record { act = act; width = width; first = first; count = quantity act asked })))
     by-judging verdict judged =

@@ -4,16 +4,9 @@ use mathlib.Core.Path.{refl}
 use mathlib.Core.Logic.{Dec·and, Dec·not}
 use mathlib.Core.List.{List}
 use Prim.Native.Nat.{ℕ, _/_}
-use native.Mathlib.Decide.{ℕ-discrete, decLe, decLt, map-dec}
+use native.Mathlib.Decide.{ℕ-discrete, decLt, map-dec}
 use lib.ListN.{length}
 use Rattle.registers.specs.Memory.{wordBits}
-use Rattle.areas.specs.declared.Area.{Area}
-use Rattle.areas.specs.declared.AreaList.{AreaList}
-use Rattle.areas.specs.Holding.{endOf, areaAt}
-use Rattle.areas.specs.Rules.{mostAreas, RulesKept}
-use Rattle.areas.specs.Following.{Follows}
-use Rattle.areas.specs.Calls.{listed, ListKept}
-use Rattle.areas.proofs.Chain.{endBefore, chain-kept, kept-chain}
 use Rattle.areas.proofs.Deciding.{decSomeWord}
 use Rattle.frames.specs.declared.Act.{Act}
 use Rattle.frames.specs.declared.Act.the-variants.{Read, WriteOne, WriteRun}
@@ -27,24 +20,7 @@ use Rattle.frames.specs.Limits.{quantity, most, bytesFor, requestLength, on, of
 use Rattle.slave.specs.declared.Station.{Station}
 use Rattle.slave.specs.Conditions.{AnotherStation, OfFound, OfFunction, WrongLength, QuantityZero, OutOfLimits, Writes, firstAddressed, NamesNothing, AddressedBy, SomeAddressedWord}
 use Rattle.slave.specs.Deciding.{Some}
-use Rattle.demands.proofs.Decidable.{decOr, decEachBelow, decAct, decBit, decJBus}
-
--- ---- the areas
-
-decFollows : (words from : ℕ) (area : Area) → Dec (Follows words from area)
-decFollows words from area =
-    map-dec (λ all. record { some-word = all .0; behind = all .1 .0; inside = all .1 .1 })
-    (λ follows. (follows .some-word, (follows .behind, follows .inside)))
-    (Dec·and (decLe 1 (area .count)) (Dec·and (decLe from (area .first)) (decLe (endOf area) words)))
-
-decRules : (words : ℕ) (areas : List Area) → Dec (RulesKept words areas)
-decRules words areas =
-    map-dec (λ both. chain-kept words areas (both .1) (both .0)) (λ kept. (kept .at-most-sixteen, kept-chain words areas kept))
-    (Dec·and (decLe (length areas) mostAreas)
-    (decEachBelow (length areas) _ (λ i. decFollows words (endBefore areas i) (areaAt areas i))))
-
-pub decListKept : (list : AreaList) (words : ℕ) → Dec (ListKept list words)
-decListKept list words = Dec·and (decLe (list .len) mostAreas) (decRules words (listed list))
+use Rattle.demands.proofs.Decidable.{decOr, decAct, decBit, decJBus}
 
 -- ---- the fields
 

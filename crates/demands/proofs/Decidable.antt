@@ -1,14 +1,13 @@
--- Ways to decide: one of two facts, each number below a bound, and the cases of an enum.
+-- Ways to decide: one of two facts, and the cases of an enum.
 -- Assumes nothing.
 use mathlib.Core.Path.{_≡_, refl, ap}
-use mathlib.Core.Logic.{_⊎_, inl, inr, ⊎-elim, Dec·not, Dec·not-not}
+use mathlib.Core.Logic.{_⊎_, inl, inr, ⊎-elim}
 use mathlib.Core.List.{[], _∷_}
-use Prim.Native.Nat.{ℕ, _<_}
+use Prim.Native.Nat.{ℕ}
 use native.Mathlib.Decide.{ℕ-discrete, map-dec}
 use native.Mathlib.Omega.{arith}
 use lib.ListN.{getD}
 use Rattle.promise.proofs.Promise.{back-apart}
-use Rattle.areas.proofs.Deciding.{some-below}
 use Rattle.frames.specs.declared.Act.{Act}
 use Rattle.frames.specs.declared.Act.the-variants.{Read, WriteOne, WriteRun}
 use Rattle.frames.specs.declared.Width.{Width}
@@ -25,12 +24,6 @@ pub decOr : {A B : Type 0} → Dec A → Dec B → Dec (A ⊎ B)
 decOr (yes a) told = yes (inl a)
 decOr (no a) (yes b) = yes (inr b)
 decOr (no a) (no b) = no (⊎-elim a b)
-
--- each number below n is such, or one is not
-pub decEachBelow : (n : ℕ) (Such : ℕ → Type 0) → ((i : ℕ) → Dec (Such i)) → Dec ((i : ℕ) → i < n → Such i)
-decEachBelow n Such told =
-    map-dec (λ none i h. Dec·not-not (told i) .0 (λ fails. none (i, h, fails))) (λ each some. some .2 (each (some .0) (some .1)))
-    (Dec·not (some-below n (λ i. Such i → ⊥) (λ i. Dec·not (told i))))
 
 -- ---- the cases of an enum
 

@@ -16,7 +16,6 @@ use Rattle.registers.proofs.Packed.{packed-byte}
 use Rattle.registers.proofs.Stored.{words-stored-none, words-stored-next}
 use Rattle.registers.proofs.Merge.{merged}
 use Rattle.areas.specs.Holding.{Holds, areaAt}
-use Rattle.areas.specs.Calls.{listed}
 use Rattle.areas.proofs.Witnesses as areas-of
 use Rattle.frames.specs.declared.Width.the-variants.{Bit}
 use Rattle.frames.specs.declared.Code.the-variants.{Address, ReadOnly}
@@ -90,7 +89,7 @@ CountingFromTheHighEndDies =
 
 -- ---- words 7 and 8 are each in an area, though not in one: no line applies
 
-no-one-area : (i : ℕ) → i < 2 → Holds (areaAt (listed areas) i) 7 → Holds (areaAt (listed areas) i) 8 → ⊥
+no-one-area : (i : ℕ) → i < 2 → Holds (areaAt areas i) 7 → Holds (areaAt areas i) 8 → ⊥
 no-one-area zero h first last = omega (arith, last .1)
 no-one-area (suc zero) h first last = omega (arith, first .0)
 no-one-area (suc (suc i)) h first last = omega arith

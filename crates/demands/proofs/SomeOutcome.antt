@@ -8,10 +8,9 @@ use native.Mathlib.Decide.{ℕ-discrete, decLt}
 use lib.ListN.{length}
 use Rattle.check_word.specs.Frame.{shortest, longest}
 use Rattle.areas.specs.declared.Access.the-variants as Access
-use Rattle.areas.specs.declared.AreaList.{AreaList}
+use Rattle.areas.specs.declared.Area.{Area}
 use Rattle.areas.specs.Holding.{InNoArea, OfAreaWith}
-use Rattle.areas.specs.Calls.{listed}
-use Rattle.areas.proofs.Deciding.{decAddressable, decOfAreaWith}
+use Rattle.areas.proofs.Deciding.{decAddressable, decOfAreaWith, decRulesKept}
 use Rattle.frames.specs.declared.Code.the-variants.{Function, Address, Value, NotReady, ReadOnly}
 use Rattle.frames.specs.Fields.{functionField}
 use Rattle.frames.specs.Functions.{functionOf}
@@ -26,7 +25,7 @@ use Rattle.slave.specs.Conditions.{mostImageWords, leastRoom}
 use Rattle.slave.specs.Table.{Line, FirstDecides, table}
 use Rattle.slave.proofs.Stable.{decRight}
 use Rattle.demands.proofs.Decidable.{decOr, decState, decNotInTable}
-use Rattle.demands.proofs.Conditions.{decListKept, decAnotherStation, decWrongLength, decQuantityZero, decOutOfLimits, decWrites, decNamesNothing, decSomeAddressed}
+use Rattle.demands.proofs.Conditions.{decAnotherStation, decWrongLength, decQuantityZero, decOutOfLimits, decWrites, decNamesNothing, decSomeAddressed}
 
 -- an outcome that the lines decide; the length that is told with a reply is not theirs
 pub record Given (lines : List Line) : Type 0 where
@@ -39,15 +38,14 @@ _when_otherwise_ : {When : Type 0} {lines : List Line} (outcome : Outcome) → D
 outcome when yes applies otherwise later = record { outcome = outcome; decided = inl (applies, refl) }
 outcome when no not otherwise later = record { outcome = later .outcome; decided = inr (not, later .decided) }
 
-pub some-outcome : (station : Station) (areas : AreaList) (words room : ℕ) (frame : List ℕ)
+pub some-outcome : (station : Station) (areas : List Area) (words room : ℕ) (frame : List ℕ)
     → Given (table station areas words room frame)
 some-outcome station areas words room frame =
-    let list = listed areas in
-    let in-no-area = decSomeAddressed station frame (InNoArea list) (λ word. Dec·not (decAddressable list word)) in
-    let read-only = decSomeAddressed station frame (OfAreaWith Access.ReadOnly list) (decOfAreaWith Access.ReadOnly list) in
+    let in-no-area = decSomeAddressed station frame (InNoArea areas) (λ word. Dec·not (decAddressable areas word)) in
+    let read-only = decSomeAddressed station frame (OfAreaWith Access.ReadOnly areas) (decOfAreaWith Access.ReadOnly areas) in
     Refused OwnAddress when ℕ-discrete (station .own) 0
     otherwise Refused Image when decOr (ℕ-discrete words 0) (decLt mostImageWords words)
-    otherwise Refused Areas when Dec·not (decListKept areas words)
+    otherwise Refused Areas when Dec·not (decRulesKept words areas)
     otherwise Refused ReplyBuffer when decLt room leastRoom
     otherwise Silent FrameLength when decOr (decLt (length frame) shortest) (decLt longest (length frame))
     otherwise Silent CheckWord when Dec·not (decRight frame)

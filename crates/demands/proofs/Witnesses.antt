@@ -13,7 +13,6 @@ use Rattle.check_word.specs.Frame.{framed}
 use Rattle.check_word.specs.Line.{bits, lineBits, differences, onesAt, differAt, window, Shown, two, odd, burst, InsideWindow, Damaged}
 use Rattle.check_word.proofs.Witnesses.{bytes-by}
 use Rattle.check_word.proofs.Laws as check-word
-use Rattle.areas.specs.Calls.{listed}
 use Rattle.areas.specs.declared.Verdict.the-variants.{SomeInNoArea, SomeReadOnly}
 use Rattle.areas.proofs.Witnesses as areas-of
 use Rattle.frames.specs.declared.Act.the-variants.{Read, WriteOne, WriteRun}
@@ -141,7 +140,7 @@ sixteen-flips = damaged (0x14 ∷ 0x07 ∷ []) _ (omega arith) (omega arith) ref
 
 -- ---- the table
 
-word-8-read-only : JudgedBy (listed areas) (AddressedBy Word 8 1) SomeReadOnly
+word-8-read-only : JudgedBy areas (AddressedBy Word 8 1) SomeReadOnly
 word-8-read-only = (
   λ (word, among, none). areas-of.bench-7-and-8 .0 (word, (omega arith, omega arith), none),
   (8, (omega arith, omega arith), (1, omega arith, (refl, (omega arith, omega arith)))),
@@ -164,7 +163,7 @@ Witnesses = record {
   line-1 = told-refused _ Refusal.OwnAddress (inl (refl, refl));
   line-2 = told-refused _ Refusal.Image (inr (own-set, inl (inl refl, refl)));
   line-3 = told-refused _ Refusal.Areas
-      (inr (own-set, inr (image-sized, inl (λ kept. areas-of.reversed-not-kept 16 (kept .1), refl))));
+      (inr (own-set, inr (image-sized, inl (λ kept. areas-of.reversed-not-kept 16 kept, refl))));
   line-4 = told-refused _ Refusal.ReplyBuffer (inr (own-set, inr (image-sized, inr (areas-kept, inl (omega arith, refl)))));
   line-10 = told-silent _ Silence.FrameLength (past-settings ModBus Ready (inl (inl (omega arith), refl)));
   line-11 = damage-told _ _ one-flip;

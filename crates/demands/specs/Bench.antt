@@ -5,7 +5,7 @@ use mathlib.Core.List.{List, [], _∷_}
 use Prim.Native.Nat.{ℕ}
 use lib.ListN.{replicate, length}
 use Rattle.areas.specs.declared.Access.the-variants.{ReadWrite}
-use Rattle.areas.specs.declared.AreaList.{AreaList}
+use Rattle.areas.specs.declared.Area.{Area}
 use Rattle.frames.specs.declared.Code.{Code}
 use Rattle.slave.specs.declared.Station.{Station}
 use Rattle.slave.specs.declared.Counting.{Counting}
@@ -15,7 +15,7 @@ use Rattle.slave.specs.declared.State.the-variants.{Ready}
 use Rattle.slave.specs.declared.Outcome.{Outcome}
 use Rattle.slave.specs.declared.Outcome.the-variants.{Exception, Reply}
 use Rattle.slave.specs.Conditions.{leastRoom}
-use Rattle.slave.specs.Examples.{area, unused, areas}
+use Rattle.slave.specs.Examples.{area, areas}
 use Rattle.slave.specs.Answer.{Call, over, Answers}
 
 -- words 1 and 2 are these, the others 0
@@ -28,7 +28,7 @@ image = words 1000 500
 abbrev pub room : ℕ → List ℕ
 room n = replicate n 0xaa
 
-abbrev pub calling : Station → AreaList → List ℕ → List ℕ → List ℕ → Call
+abbrev pub calling : Station → List Area → List ℕ → List ℕ → List ℕ → Call
 calling station areas image reply frame = record {
   station = station;
   areas = areas;
@@ -102,8 +102,8 @@ abbrev pub write-three-bits : Call
 write-three-bits = bench ModBus Ready (0x14 ∷ 0x0f ∷ 0x00 ∷ 0x18 ∷ 0x00 ∷ 0x03 ∷ 0x01 ∷ 0xfc ∷ 0x6e ∷ 0x27 ∷ [])
 
 -- of eight words, 4 and 5 are in no area
-abbrev pub holed : AreaList
-holed = record { entries = area 0 4 ReadWrite ∷ area 6 2 ReadWrite ∷ unused; len = 2 }
+abbrev pub holed : List Area
+holed = area 0 4 ReadWrite ∷ area 6 2 ReadWrite ∷ []
 
 -- words 3 to 6 are read
 abbrev pub read-3-to-6 : Call

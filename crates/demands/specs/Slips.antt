@@ -9,7 +9,6 @@ use Rattle.registers.specs.Memory.{wordBits, byteBits, bit, imageWord, from}
 use Rattle.registers.specs.Packing.{packedBit, packedWord, BitsPacked}
 use Rattle.registers.specs.Storing.{BitsStored, WordsStored}
 use Rattle.areas.specs.Holding.{SomeArea, Holds, Addressable}
-use Rattle.areas.specs.Calls.{listed}
 use Rattle.frames.specs.declared.Code.{Code}
 use Rattle.frames.specs.Fields.{stationField, quantityField, byteCountField, dataField}
 use Rattle.slave.specs.declared.Silence.the-variants.{AnotherStation}
@@ -35,7 +34,7 @@ StoringWhileCheckingDies = DiesOn Untouched StoresWhileChecking write-7-and-8
 
 -- "Testing only the first and the last word of a request against the areas, with a hole between." (of a request on words)
 abbrev pub TestsFirstAndLast : Slave
-TestsFirstAndLast call answer = Addressable (listed (call .areas)) (firstOf call) → Addressable (listed (call .areas)) (lastOf call)
+TestsFirstAndLast call answer = Addressable (call .areas) (firstOf call) → Addressable (call .areas) (lastOf call)
     → (n : ℕ) × (answer .outcome ≡ Reply n)
 
 abbrev pub TestingFirstAndLastDies : Type 0
@@ -56,7 +55,7 @@ CountingFromTheHighEndDies = DiesOn ReadShows CountsFromTheHighEnd read-bit-21
 -- "Refusing a request because it starts in one area and ends in another that touches it." (of a request on words)
 abbrev pub AsksForOneArea : Slave
 AsksForOneArea call answer =
-    (SomeArea (listed (call .areas)) (λ area. Holds area (firstOf call) × Holds area (lastOf call)) → ⊥)
+    (SomeArea (call .areas) (λ area. Holds area (firstOf call) × Holds area (lastOf call)) → ⊥)
     → (n : ℕ) → answer .outcome ≢ Reply n
 
 abbrev pub AskingForOneAreaDies : Type 0

@@ -6,20 +6,20 @@ use Prim.Native.Nat.{ℕ}
 use lib.ListN.{replicate}
 use Rattle.check_word.specs.Line.{Damaged, ExactlyTwo, OddInNumber, InsideWindow, differAt}
 use Rattle.areas.specs.declared.Access.the-variants.{ReadOnly, ReadWrite}
-use Rattle.areas.specs.declared.AreaList.{AreaList}
+use Rattle.areas.specs.declared.Area.{Area}
 use Rattle.frames.specs.declared.Code.the-variants as Code
 use Rattle.slave.specs.declared.Counting.the-variants.{ModBus, JBus}
 use Rattle.slave.specs.declared.State.the-variants.{Ready, NotReady, AtTheKeyboard}
 use Rattle.slave.specs.declared.Refusal.the-variants as Refusal
 use Rattle.slave.specs.declared.Silence.the-variants as Silence
 use Rattle.slave.specs.declared.Outcome.the-variants.{Refused, Silent}
-use Rattle.slave.specs.Examples.{area, unused, areas, start-0}
+use Rattle.slave.specs.Examples.{area, areas, start-0}
 use Rattle.demands.specs.Terms.{withImage}
 use Rattle.demands.specs.Bench.{words, image, room, calling, stationWith, bench, Told, Excepted, Replied, two-words, read-three-bits, read-two-words, read-7-and-8, write-word-1, write-7-and-8, write-three-bits}
 
 -- areas that do not ascend
-abbrev pub descending : AreaList
-descending = record { entries = area 8 8 ReadWrite ∷ area 0 8 ReadWrite ∷ unused; len = 2 }
+abbrev pub descending : List Area
+descending = area 8 8 ReadWrite ∷ area 0 8 ReadWrite ∷ []
 
 -- a right frame of 256 bytes; its check word is D39D hex
 abbrev pub longest-frame : List ℕ

@@ -8,9 +8,7 @@ use native.Mathlib.Omega.{arith}
 use Rattle.registers.specs.Memory.{wordBits}
 use Rattle.areas.specs.Rules.{RulesKept}
 use Rattle.areas.specs.Holding.{InNoArea}
-use Rattle.areas.specs.Calls.{listed}
 use Rattle.areas.specs.declared.Area.{Area}
-use Rattle.areas.specs.declared.AreaList.{AreaList}
 use Rattle.areas.proofs.Laws as areas-laws
 use Rattle.frames.specs.declared.Width.{Width}
 use Rattle.frames.specs.declared.Width.the-variants.{Bit, Word}
@@ -47,7 +45,7 @@ still-inside : (width : Width) (words first count : ℕ) → ((Inside width word
 still-inside Bit words first count = still-at-most (first + count) (words * wordBits)
 still-inside Word words first count = still-at-most (first + count) words
 
-module _ (station : Station) (areas : AreaList) (words room : ℕ) (frame : List ℕ) where
+module _ (station : Station) (areas : List Area) (words room : ℕ) (frame : List ℕ) where
   pub possible : (request : Request) → NoneApplies (table station areas words room frame) → Reads station frame request
       → Possible frame words room request
   possible request none reads =
@@ -59,15 +57,15 @@ module _ (station : Station) (areas : AreaList) (words room : ℕ) (frame : List
       let function = reads .function in
       let some : 1 ≤ request .count =
       still-at-most _ _ (λ few. asked .1 .0 (rw (function, ← reads .count) (omega (arith, few)))) in
-      let held : Some (AddressedBy (request .width) (request .first) (request .count)) (InNoArea (listed areas)) → ⊥ =
-      λ s. limits .1 .0 (inr (some-addressed station frame request reads (InNoArea (listed areas)) s)) in
+      let held : Some (AddressedBy (request .width) (request .first) (request .count)) (InNoArea areas) → ⊥ =
+      λ s. limits .1 .0 (inr (some-addressed station frame request reads (InNoArea areas) s)) in
       record {
         count-read = reads .count;
         some = some;
         at-most = still-at-most _ _ (λ over. limits .0 (rw (function, ← reads .count) (inl (omega (arith, over)))));
         inside = still-inside (request .width) words (request .first) (request .count)
             (λ outside. call .0 (λ kept. outside
-            (run-inside words (listed areas) (kept .1) (request .width) (request .first) (request .count) some held)));
+            (run-inside words areas kept (request .width) (request .first) (request .count) some held)));
         long = still-same _ _ (λ other. asked .0 (rw function other));
         byte-count = λ run.
             let count : quantityField frame ≡ request .count = sym (reads .count ∙ rw run refl) in

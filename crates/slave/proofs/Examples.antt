@@ -28,7 +28,7 @@ unfolding functionOf number
 decided =
     past (λ e. omega arith)
     (past (⊎-elim (λ e. omega arith) (λ h. omega arith))
-    (past (λ broken. broken (omega arith, areas-of.bench-kept))
+    (past (λ broken. broken areas-of.bench-kept)
     (past (λ h. omega arith)
     (past (⊎-elim (λ h. omega arith) (λ h. omega arith))
     (past (λ wrong. wrong right)

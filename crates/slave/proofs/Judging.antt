@@ -7,9 +7,8 @@ use Prim.Native.Nat.{ℕ}
 use native.Mathlib.Omega.{arith}
 use lib.ListN.{drop}
 use Rattle.areas.specs.Holding.{InNoArea, OfAreaWith}
-use Rattle.areas.specs.Calls.{listed}
 use Rattle.areas.specs.declared.Access.the-variants.{ReadOnly}
-use Rattle.areas.specs.declared.AreaList.{AreaList}
+use Rattle.areas.specs.declared.Area.{Area}
 use Rattle.areas.specs.declared.Verdict.{Verdict}
 use Rattle.areas.specs.declared.Verdict.the-variants.{SomeInNoArea, SomeReadOnly, AllReadWrite}
 use Rattle.frames.specs.declared.Act.{Act}
@@ -39,27 +38,27 @@ module _ (station : Station) (frame : List ℕ) (request : Request) (reads : Rea
   no-writes : request .act ≡ Read → Writes frame → ⊥
   no-writes read w = (rw (reads .function) at w) read
 
-  module _ (areas : AreaList) (somewhere : NamesNothing station frame → ⊥) where
+  module _ (areas : List Area) (somewhere : NamesNothing station frame → ⊥) where
     -- behind line E2
-    past-areas : {decision : Decision} → (Some Addressed (InNoArea (listed areas)) → ⊥)
-        → Decided (drop 1 (areaLines station areas frame)) station frame decision
-        → Decided (areaLines station areas frame) station frame decision
-    past-areas held = past (⊎-elim somewhere (λ s. held (addressed-some (InNoArea (listed areas)) s)))
+    past-areas : {decision : Decision} → (Some Addressed (InNoArea areas) → ⊥)
+        → Decided (drop 1 (areaLines station frame areas)) station frame decision
+        → Decided (areaLines station frame areas) station frame decision
+    past-areas held = past (⊎-elim somewhere (λ s. held (addressed-some (InNoArea areas) s)))
 
-    written : request .act ≢ Read → Some Addressed (OfAreaWith ReadOnly (listed areas))
-        → Decided (drop 1 (areaLines station areas frame)) station frame (acceptIfARead WriteOne request)
-    written write s = here (writes write, some-addressed (OfAreaWith ReadOnly (listed areas)) s) refl tt
+    written : request .act ≢ Read → Some Addressed (OfAreaWith ReadOnly areas)
+        → Decided (drop 1 (areaLines station frame areas)) station frame (acceptIfARead WriteOne request)
+    written write s = here (writes write, some-addressed (OfAreaWith ReadOnly areas) s) refl tt
 
-    by-act : (act : Act) → request .act ≡ act → Some Addressed (OfAreaWith ReadOnly (listed areas))
-        → Decided (drop 1 (areaLines station areas frame)) station frame (acceptIfARead act request)
+    by-act : (act : Act) → request .act ≡ act → Some Addressed (OfAreaWith ReadOnly areas)
+        → Decided (drop 1 (areaLines station frame areas)) station frame (acceptIfARead act request)
     by-act Read is s = past (λ w. no-writes is (w .0)) (accept refl reads)
     by-act WriteOne is s = written (λ e. apart actPlace is e (omega arith)) s
     by-act WriteRun is s = written (λ e. apart actPlace is e (omega arith)) s
 
-    pub by-verdict : (verdict : Verdict) → JudgedBy (listed areas) Addressed verdict
-        → Decided (areaLines station areas frame) station frame (byVerdict verdict request)
-    by-verdict SomeInNoArea j = here (inr (some-addressed (InNoArea (listed areas)) j)) refl tt
+    pub by-verdict : (verdict : Verdict) → JudgedBy areas Addressed verdict
+        → Decided (areaLines station frame areas) station frame (byVerdict verdict request)
+    by-verdict SomeInNoArea j = here (inr (some-addressed (InNoArea areas) j)) refl tt
     by-verdict SomeReadOnly j = past-areas (j .0) (by-act (request .act) refl (j .1))
     by-verdict AllReadWrite j =
         past-areas (j .0)
-        (past (λ w. j .1 (addressed-some (OfAreaWith ReadOnly (listed areas)) (w .1))) (accept refl reads))
+        (past (λ w. j .1 (addressed-some (OfAreaWith ReadOnly areas) (w .1))) (accept refl reads))

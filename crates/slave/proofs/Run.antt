@@ -10,9 +10,10 @@ use Rattle.areas.specs.Verdicts.{Judged}
 use Rattle.areas.specs.declared.Area.{Area}
 use Rattle.areas.specs.declared.Verdict.{Verdict}
 use Rattle.areas.specs.declared.Verdict.the-variants.{SomeInNoArea, SomeReadOnly, AllReadWrite}
-use Rattle.frames.specs.declared.Width.the-variants.{Bit}
+use Rattle.frames.specs.declared.Width.{Width}
+use Rattle.frames.specs.declared.Width.the-variants.{Bit, Word}
 use Rattle.slave.specs.Conditions.{AddressedBy}
-use Rattle.slave.specs.Deciding.{Some, JudgedBy, wordsOf}
+use Rattle.slave.specs.Deciding.{Some, JudgedBy, wordsOf, wordsIn}
 
 -- each word of the run has a bit: its lowest one, or the first of all
 pub words-addressed : (first count : ℕ) → 1 ≤ count → (word : ℕ) → Among (first / wordBits) (wordsOf first count) word
@@ -31,7 +32,7 @@ some-of : (A B Such : ℕ → Type 0) → ((word : ℕ) → A word → B word) �
 some-of A B Such to (word, a, such) = (word, to word a, such)
 
 -- a verdict on a run is one on the words that it consists of
-pub judged-over : (areas : List Area) (first n : ℕ) (Addressed : ℕ → Type 0)
+judged-over : (areas : List Area) (first n : ℕ) (Addressed : ℕ → Type 0)
     → ((word : ℕ) → Among first n word → Addressed word) → ((word : ℕ) → Addressed word → Among first n word)
     → (verdict : Verdict) → Judged areas first n verdict → JudgedBy areas Addressed verdict
 judged-over areas first n Addressed to back SomeInNoArea j = some-of (Among first n) Addressed _ to j
@@ -39,3 +40,12 @@ judged-over areas first n Addressed to back SomeReadOnly j =
     (λ s. j .0 (some-of Addressed (Among first n) _ back s), some-of (Among first n) Addressed _ to (j .1))
 judged-over areas first n Addressed to back AllReadWrite j =
     (λ s. j .0 (some-of Addressed (Among first n) _ back s), λ s. j .1 (some-of Addressed (Among first n) _ back s))
+
+pub judged-words : (areas : List Area) (width : Width) (first count : ℕ) → 1 ≤ count → (verdict : Verdict)
+    → Judged areas (wordsIn width first count .first) (wordsIn width first count .count) verdict
+    → JudgedBy areas (AddressedBy width first count) verdict
+judged-words areas Bit first count some =
+    judged-over areas (first / wordBits) (wordsOf first count) (AddressedBy Bit first count)
+    (words-addressed first count some) (addressed-words first count)
+judged-words areas Word first count some =
+    judged-over areas first count (AddressedBy Word first count) (λ word h. h) (λ word h. h)

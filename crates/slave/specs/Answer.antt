@@ -10,7 +10,7 @@ use Rattle.registers.specs.Memory.{imageWord, imageBit, from}
 use Rattle.registers.specs.Packing.{packedBit, packedWord, BitsPacked, WordsPacked}
 use Rattle.registers.specs.Storing.{BitsStored, WordsStored}
 use Rattle.registers.specs.Calls.{bitValue}
-use Rattle.areas.specs.declared.AreaList.{AreaList}
+use Rattle.areas.specs.declared.Area.{Area}
 use Rattle.frames.specs.declared.Act.{Act}
 use Rattle.frames.specs.declared.Act.the-variants.{Read, WriteOne, WriteRun}
 use Rattle.frames.specs.declared.Width.{Width}
@@ -75,7 +75,7 @@ pub record Done (own first : ℕ) (frame image reply : List ℕ) (act : Act) (wi
 -- what goes into a call; image and reply buffer are as they were lent
 pub record Call : Type 0 where
   pub station : Station
-  pub areas : AreaList
+  pub areas : List Area
   pub frame : List ℕ
   pub image : List ℕ
   pub reply : List ℕ
@@ -112,8 +112,8 @@ pub record Answers (call : Call) (answer : Answer) : Type 0 where
   pub left : Leaves (call .station) (call .frame) (call .image) (call .reply)
       (answer .outcome) (answer .image) (answer .reply)
 
--- what `respond` promises
-abbrev pub Respond : Station → AreaList → List ℕ → List ℕ → List ℕ → Outcome → List ℕ → List ℕ → Type 0
+-- what `respond` promises of the areas that it is lent, and `respond_by_value` of those of its list (`listed` of areas)
+abbrev pub Respond : Station → List Area → List ℕ → List ℕ → List ℕ → Outcome → List ℕ → List ℕ → Type 0
 Respond station areas frame image reply outcome imageAfter replyAfter =
     Answers (record { station = station; areas = areas; frame = frame; image = image; reply = reply })
     (record { outcome = outcome; image = imageAfter; reply = replyAfter })

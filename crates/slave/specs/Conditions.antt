@@ -7,8 +7,8 @@ use Prim.Native.Nat.{ℕ, _-_, _/_, _<_}
 use lib.ListN.{length}
 use Rattle.registers.specs.Memory.{wordBits}
 use Rattle.areas.specs.Holding.{Among}
-use Rattle.areas.specs.Calls.{ListKept}
-use Rattle.areas.specs.declared.AreaList.{AreaList}
+use Rattle.areas.specs.Rules.{RulesKept}
+use Rattle.areas.specs.declared.Area.{Area}
 use Rattle.frames.specs.declared.Act.{Act}
 use Rattle.frames.specs.declared.Act.the-variants.{Read, WriteOne, WriteRun}
 use Rattle.frames.specs.declared.Width.{Width}
@@ -29,8 +29,8 @@ abbrev pub mostImageWords : ℕ
 mostImageWords = 4095
 
 -- the list of areas breaks a rule (areas, `Rules`)
-abbrev pub BreaksARule : AreaList → ℕ → Type 0
-BreaksARule areas words = ListKept areas words → ⊥
+abbrev pub BreaksARule : List Area → ℕ → Type 0
+BreaksARule areas words = RulesKept words areas → ⊥
 
 -- the fewest bytes of a reply buffer
 abbrev pub leastRoom : ℕ

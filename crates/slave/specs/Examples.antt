@@ -3,13 +3,11 @@
 use mathlib.Core.Path.{_≡_}
 use mathlib.Core.List.{List, [], _∷_}
 use Prim.Native.Nat.{ℕ}
-use lib.ListN.{replicate}
 use Rattle.check_word.specs.CheckWord.{checkWord}
 use Rattle.registers.specs.Memory.{bit, imageWord, imageBit}
 use Rattle.areas.specs.declared.Access.{Access}
 use Rattle.areas.specs.declared.Access.the-variants.{ReadOnly, ReadWrite}
 use Rattle.areas.specs.declared.Area.{Area}
-use Rattle.areas.specs.declared.AreaList.{AreaList}
 use Rattle.frames.specs.declared.Width.the-variants.{Bit}
 use Rattle.frames.specs.Limits.{off}
 use Rattle.slave.specs.declared.Station.{Station}
@@ -27,13 +25,9 @@ words = 0 ∷ 1000 ∷ 500 ∷ []
 abbrev pub area : ℕ → ℕ → Access → Area
 area first count access = record { first = first; count = count; access = access }
 
--- the fourteen entries that do not count, of a list with two areas
-abbrev pub unused : List Area
-unused = replicate 14 (area 0 0 ReadOnly)
-
 -- the bench station's areas
-abbrev pub areas : AreaList
-areas = record { entries = area 0 8 ReadWrite ∷ area 8 8 ReadOnly ∷ unused; len = 2 }
+abbrev pub areas : List Area
+areas = area 0 8 ReadWrite ∷ area 8 8 ReadOnly ∷ []
 
 -- the station, but counting as J-Bus does
 abbrev pub station : Station

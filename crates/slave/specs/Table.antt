@@ -8,9 +8,8 @@ use Prim.Native.Nat.{ℕ, _<_}
 use lib.ListN.{length}
 use Rattle.check_word.specs.Frame.{shortest, longest, Right}
 use Rattle.areas.specs.Holding.{InNoArea, OfAreaWith}
-use Rattle.areas.specs.Calls.{listed}
 use Rattle.areas.specs.declared.Access.the-variants.{ReadOnly}
-use Rattle.areas.specs.declared.AreaList.{AreaList}
+use Rattle.areas.specs.declared.Area.{Area}
 use Rattle.slave.specs.declared.Station.{Station}
 use Rattle.slave.specs.declared.State.the-variants.{NotReady, AtTheKeyboard}
 use Rattle.slave.specs.Numbers.{Kind, refused, silence, exception, accepted}
@@ -26,7 +25,7 @@ FirstDecides [] kind = kind ≡ accepted
 FirstDecides ((given, When) ∷ lines) kind = (When × (kind ≡ given)) ⊎ ((When → ⊥) × FirstDecides lines kind)
 
 -- The fifteen lines. (A frame has `shortest`, 4, to `longest`, 256, bytes: check_word, `Frame`.)
-abbrev pub table : Station → AreaList → ℕ → ℕ → List ℕ → List Line
+abbrev pub table : Station → List Area → ℕ → ℕ → List ℕ → List Line
 table station areas words room frame =
     (refused 1, station .own ≡ 0)
     ∷ (refused 2, (words ≡ 0) ⊎ (mostImageWords < words))
@@ -41,6 +40,6 @@ table station areas words room frame =
     ∷ (silence 14, WrongLength frame)
     ∷ (silence 15, QuantityZero frame)
     ∷ (exception 3, OfFunction frame (OutOfLimits frame))
-    ∷ (exception 2, NamesNothing station frame ⊎ SomeAddressedWord station frame (InNoArea (listed areas)))
-    ∷ (exception 8, Writes frame × SomeAddressedWord station frame (OfAreaWith ReadOnly (listed areas)))
+    ∷ (exception 2, NamesNothing station frame ⊎ SomeAddressedWord station frame (InNoArea areas))
+    ∷ (exception 8, Writes frame × SomeAddressedWord station frame (OfAreaWith ReadOnly areas))
     ∷ []

@@ -1,5 +1,6 @@
-// What to answer: the lines of the answer table, in their order. What a group of lines asks is found out first, and then tested line by
-// line; the areas are asked last, and their verdict gives E8 and one part of E2. Nothing is written, and no register is read.
+// What to answer: the lines of the answer table, in their order. What a group of lines asks is found out first, and then tested
+// line by line. Of the areas a decision knows what was found of them: line 3, and by the verdict on the words asked for, E8 and one
+// part of E2. Nothing is written, and no register is read.
 use crate::Counting;
 use crate::LEAST_ROOM;
 use crate::MOST_IMAGE_WORDS;
@@ -7,7 +8,8 @@ use crate::Refusal;
 use crate::Silence;
 use crate::State;
 use crate::Station;
-use areas::AreaList;
+use areas::Finding;
+use areas::Run;
 use areas::Verdict;
 use frames::Act;
 use frames::Code;
@@ -16,10 +18,9 @@ use frames::Width;
 use registers::WORD_BITS;
 ghost use mathlib.Core.Path.{_≡_};
 ghost use mathlib.Core.Logic.{_⊎_, _≢_};
-ghost use Prim.Native.Nat.{_≤_, _<_};
+ghost use Prim.Native.Nat.{_<_};
 ghost use Rattle.promise.specs.Promise.{Decides};
 ghost use Rattle.check_word.specs.Frame.{shortest, longest};
-ghost use Rattle.areas.specs.Calls.{listed};
 ghost use Rattle.frames.specs.declared.Lookup.the-variants.{Found};
 ghost use Rattle.frames.specs.declared.Width.the-variants.{Bit};
 ghost use Rattle.frames.specs.Fields.{functionField};
@@ -27,9 +28,8 @@ ghost use Rattle.frames.specs.Functions.{functionOf};
 ghost use Rattle.frames.specs.Limits.{quantity, BitValue};
 ghost use Rattle.slave.specs.declared.Counting.the-variants.{JBus};
 ghost use Rattle.slave.specs.declared.State.the-variants.{NotReady, AtTheKeyboard};
-ghost use Rattle.slave.specs.Conditions.{mostImageWords, OutOfLimits, countedFrom0, AddressedBy};
-ghost use Rattle.slave.specs.Table.{table};
-ghost use Rattle.slave.specs.Deciding.{Decided, frameLines, messageLines, requestLines, JudgedBy, wordsOf, byVerdict, acceptIfARead};
+ghost use Rattle.slave.specs.Conditions.{mostImageWords, OutOfLimits, countedFrom0};
+ghost use Rattle.slave.specs.Deciding.{wordsIn, wordsAsked, DecidedBy, DecidedFor, frameLines, messageLines, requestLines, byVerdict, acceptIfARead};
 
 // An accepted request: `count` bits or words from address `first` on, counted from 0.
 pub(crate) struct Request {
@@ -46,31 +46,58 @@ pub(crate) enum Decision {
     Accepted(Request),
 }
 
+// The words that a frame asks for. The areas are asked of them at once, before it is known whether that matters.
+pub(crate) fn words_asked(station: Station, frame: &[u8]) -> Run
+    ensures { λ r. ⌜ r ≡ wordsAsked station (now (frame .entry)) ⌝ }
+{
+    let function = frames::byte_at(frame, frames::FUNCTION_AT);
+    let found = frames::function_of(function);
+    let start = frames::number_at(frame, frames::START_AT);
+    let counting = station.counting;
+    let first = counted_from_0(counting, start);
+    match found {
+        Lookup::NotInTable => Run { first: 0, count: 0 },
+        Lookup::Found(act, width) => words_in(width, first, frames::quantity_of(act, frame)),
+    }
+}
+
+// The words that the bits or words of a run belong to.
+fn words_in(width: Width, first: u16, count: u16) -> Run
+    ensures { λ r. ⌜ r ≡ wordsIn width first count ⌝ }
+{
+    match width {
+        Width::Bit => Run {
+            first: (first as usize / WORD_BITS) as u16,
+            count: ((first as usize % WORD_BITS + count as usize + 15) / WORD_BITS) as u16,
+        },
+        Width::Word => Run { first, count },
+    }
+}
+
 // The whole table: lines 1 to 4 are about the call.
 pub(crate) fn decide(
     station: Station,
-    areas: AreaList,
+    finding: Finding,
     words: usize,
     room: usize,
     frame: &[u8],
 ) -> Decision
-    ensures { λ r. ⌜ Decided (table station areas words room (now (frame .entry))) station (now (frame .entry)) r ⌝ }
+    ensures { λ r. ⌜ DecidedBy station (now (frame .entry)) words room finding r ⌝ }
 {
     let no_image = is_no_image(words);
-    let kept = areas::keeps_rules(areas, words);
     if station.own == 0 {
         return Decision::Refused(Refusal::OwnAddress);
     }
     if no_image {
         return Decision::Refused(Refusal::Image);
     }
-    if !kept {
+    let Finding::Keeps(verdict) = finding else {
         return Decision::Refused(Refusal::Areas);
-    }
+    };
     if room < LEAST_ROOM {
         return Decision::Refused(Refusal::ReplyBuffer);
     }
-    decide_frame(station, areas, frame)
+    decide_frame(station, verdict, frame)
 }
 
 // Line 2: an image has 1 to 4,095 words.
@@ -84,8 +111,8 @@ fn is_no_image(words: usize) -> bool
 }
 
 // From line 10 on. Lines 10 and 11 are about the frame as the serial line brings it.
-fn decide_frame(station: Station, areas: AreaList, frame: &[u8]) -> Decision
-    ensures { λ r. ⌜ Decided (frameLines station areas (now (frame .entry))) station (now (frame .entry)) r ⌝ }
+fn decide_frame(station: Station, verdict: Verdict, frame: &[u8]) -> Decision
+    ensures { λ r. ⌜ DecidedFor frameLines station (now (frame .entry)) verdict r ⌝ }
 {
     let no_length = is_no_length(frame.len());
     let right = check_word::is_right(frame);
@@ -95,7 +122,7 @@ fn decide_frame(station: Station, areas: AreaList, frame: &[u8]) -> Decision
     if !right {
         return Decision::Silent(Silence::CheckWord);
     }
-    decide_message(station, areas, frame)
+    decide_message(station, verdict, frame)
 }
 
 // Line 10: a frame has 4 to 256 bytes.
@@ -109,8 +136,8 @@ fn is_no_length(length: usize) -> bool
 }
 
 // From line 12 on: address, function and data.
-fn decide_message(station: Station, areas: AreaList, frame: &[u8]) -> Decision
-    ensures { λ r. ⌜ Decided (messageLines station areas (now (frame .entry))) station (now (frame .entry)) r ⌝ }
+fn decide_message(station: Station, verdict: Verdict, frame: &[u8]) -> Decision
+    ensures { λ r. ⌜ DecidedFor messageLines station (now (frame .entry)) verdict r ⌝ }
 {
     let address = frames::byte_at(frame, frames::STATION_AT);
     let anothers = is_anothers(station.own, address);
@@ -130,7 +157,7 @@ fn decide_message(station: Station, areas: AreaList, frame: &[u8]) -> Decision
     }
     match found {
         Lookup::NotInTable => Decision::Exception(Code::Function),
-        Lookup::Found(act, width) => decide_request(station, areas, act, width, frame),
+        Lookup::Found(act, width) => decide_request(station, verdict, act, width, frame),
     }
 }
 
@@ -169,13 +196,13 @@ fn is_not_ready(state: State) -> bool
 // From line 14 on, of a function in the table.
 fn decide_request(
     station: Station,
-    areas: AreaList,
+    verdict: Verdict,
     act: Act,
     width: Width,
     frame: &[u8],
 ) -> Decision
     requires { ⌜ functionOf (functionField (now frame)) ≡ Found act width ⌝ }
-    ensures { λ r. ⌜ Decided (requestLines station areas (now (frame .entry))) station (now (frame .entry)) r ⌝ }
+    ensures { λ r. ⌜ DecidedFor requestLines station (now (frame .entry)) verdict r ⌝ }
 {
     let length = frames::request_length(act, frame);
     let count = frames::quantity_of(act, frame);
@@ -196,7 +223,6 @@ fn decide_request(
         return Decision::Exception(Code::Address);
     }
     let first = counted_from_0(counting, start);
-    let verdict = judge_run(areas, width, first, count);
     by_verdict(
         verdict,
         Request {
@@ -254,28 +280,6 @@ fn counted_from_0(counting: Counting, start: u16) -> u16
         Counting::ModBus => start,
         Counting::JBus => if start == 0 { 0 } else { start - 1 },
     }
-}
-
-// The verdict on the words that a run of bits or words addresses.
-fn judge_run(areas: AreaList, width: Width, first: u16, count: u16) -> Verdict
-    requires { ⌜ 1 ≤ count ⌝ }
-    ensures { λ r. ⌜ JudgedBy (listed areas) (AddressedBy width first count) r ⌝ }
-{
-    match width {
-        Width::Bit => areas::judge(
-            areas,
-            (first as usize / WORD_BITS) as u16,
-            words_of(first, count),
-        ),
-        Width::Word => areas::judge(areas, first, count),
-    }
-}
-
-// How many words the bits of a run belong to.
-fn words_of(first: u16, count: u16) -> u16
-    ensures { λ r. ⌜ r ≡ wordsOf first count ⌝ }
-{
-    ((first as usize % WORD_BITS + count as usize + 15) / WORD_BITS) as u16
 }
 
 // Lines E2, as far as it is about areas, and E8.

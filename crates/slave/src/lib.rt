@@ -1,14 +1,21 @@
 // A slave's core: one received frame is answered. First it is decided what to answer, and no register is read for that; then the
-// decision is carried out, and by then nothing can go wrong. No public function has a `requires`. `respond`'s contract cites
-// specs/Answer.antt.
+// decision is carried out, and by then nothing can go wrong. The areas are lent, and `respond_by_value` lends a list by value.
+// No public function has a `requires`. The contracts cite specs/Answer.antt.
 mod carry;
 mod decide;
 
+use areas::Area;
 use areas::AreaList;
+use areas::Finding;
+use areas::LIST_ENTRIES;
 use frames::Code;
 ghost use mathlib.Core.Path.{_≡_};
+ghost use Prim.Native.Nat.{_≤_, min};
+ghost use lib.ListN.{length, take};
+ghost use Rattle.areas.specs.Calls.{listEntries, listed};
 ghost use Rattle.slave.specs.Numbers.{refusalNumber, silenceNumber};
 ghost use Rattle.slave.specs.Answer.{toSend, Respond};
+ghost use Rattle.slave.specs.Deciding.{FoundOfSome, AnsweredBy};
 
 // The most words of an image.
 pub const MOST_IMAGE_WORDS: usize = 4095;
@@ -79,14 +86,70 @@ pub enum Outcome {
 // A refusal and a silence change nothing, an exception leaves the image.
 pub fn respond(
     station: Station,
-    areas: AreaList,
+    areas: &[Area],
     frame: &[u8],
     image: &mut [u16],
     reply: &mut [u8],
 ) -> Outcome
-    ensures { λ r. ⌜ Respond station areas (now (frame .entry)) (now (image .entry)) (now (reply .entry)) r (now (image .exit)) (now (reply .exit)) ⌝ }
+    ensures { λ r. ⌜ Respond station (now (areas .entry)) (now (frame .entry)) (now (image .entry)) (now (reply .entry)) r (now (image .exit)) (now (reply .exit)) ⌝ }
 {
-    let decision = decide::decide(station, areas, image.len(), reply.len(), frame);
+    let run = decide::words_asked(station, frame);
+    let finding = areas::survey(areas, image.len(), run);
+    answer(station, finding, frame, image, reply)
+}
+
+// The same for a list of areas by value.
+pub fn respond_by_value(
+    station: Station,
+    list: AreaList,
+    frame: &[u8],
+    image: &mut [u16],
+    reply: &mut [u8],
+) -> Outcome
+    ensures { λ r. ⌜ Respond station (listed list) (now (frame .entry)) (now (image .entry)) (now (reply .entry)) r (now (image .exit)) (now (reply .exit)) ⌝ }
+{
+    let entries = list.entries;
+    respond_first(station, entries, used(list.len), frame, image, reply)
+}
+
+// How many of the entries of a list by value are its areas.
+fn used(len: usize) -> usize
+    ensures { λ r. ⌜ r ≡ min len listEntries ⌝ }
+{
+    if len < LIST_ENTRIES {
+        len
+    } else {
+        LIST_ENTRIES
+    }
+}
+
+// Lends the first `n` of the entries for one call.
+fn respond_first(
+    station: Station,
+    entries: [Area; LIST_ENTRIES],
+    n: usize,
+    frame: &[u8],
+    image: &mut [u16],
+    reply: &mut [u8],
+) -> Outcome
+    requires { ⌜ n ≤ listEntries ⌝ }
+    ensures { λ r. ⌜ Respond station (take n entries) (now (frame .entry)) (now (image .entry)) (now (reply .entry)) r (now (image .exit)) (now (reply .exit)) ⌝ }
+{
+    respond(station, &entries[..n], frame, image, reply)
+}
+
+// Decides, by what was found of the areas, and carries it out.
+fn answer(
+    station: Station,
+    finding: Finding,
+    frame: &[u8],
+    image: &mut [u16],
+    reply: &mut [u8],
+) -> Outcome
+    requires { ⌜ FoundOfSome station (now frame) (length (now image)) finding ⌝ }
+    ensures { λ r. ⌜ AnsweredBy station finding (now (frame .entry)) (now (image .entry)) (now (reply .entry)) r (now (image .exit)) (now (reply .exit)) ⌝ }
+{
+    let decision = decide::decide(station, finding, image.len(), reply.len(), frame);
     carry::carry_out(decision, station, frame, image, reply)
 }
 

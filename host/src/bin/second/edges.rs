@@ -59,11 +59,15 @@ pub const LENT: &[Entry] = &[
     // Line 3: descending, touching and not.
     ("refused 3", "20 m r|8 8 r,0 8 w|16 0 0|256 170 0|14 03 00 00 00 01 *"),
     ("refused 3", "20 m r|0 1 w,8 2 r,5 2 w|16 0 0|256 170 0|14 03 00 00 00 01 *"),
-    // Line 3: 0, 16 and 17 areas, and a rule broken by the sixteenth only.
+    // Line 3: 0, 16, 17 and 18 areas, 17 with each other refusal, and a rule broken by the sixteenth only.
     ("exception 2", "20 m r||17 0 0|256 170 0|14 03 00 00 00 01 *"),
     ("reply", "20 m r|0 1 w,1 1 w,2 1 w,3 1 w,4 1 w,5 1 w,6 1 w,7 1 w,8 1 w,9 1 w,10 1 w,11 1 w,12 1 w,13 1 w,14 1 w,15 1 w|17 0 0|256 170 0|14 03 00 00 00 10 *"),
     ("exception 2", "20 m r|0 1 w,1 1 w,2 1 w,3 1 w,4 1 w,5 1 w,6 1 w,7 1 w,8 1 w,9 1 w,10 1 w,11 1 w,12 1 w,13 1 w,14 1 w,15 1 w|17 0 0|256 170 0|14 03 00 00 00 11 *"),
     ("refused 3||kept|", "20 m r|0 1 w,1 1 w,2 1 w,3 1 w,4 1 w,5 1 w,6 1 w,7 1 w,8 1 w,9 1 w,10 1 w,11 1 w,12 1 w,13 1 w,14 1 w,15 1 w,16 1 w|17 0 0|256 170 0|14 03 00 00 00 10 *"),
+    ("refused 3||kept|", "20 m r|0 1 w,1 1 w,2 1 w,3 1 w,4 1 w,5 1 w,6 1 w,7 1 w,8 1 w,9 1 w,10 1 w,11 1 w,12 1 w,13 1 w,14 1 w,15 1 w,16 1 w,17 1 w|18 0 0|256 170 0|14 03 00 00 00 10 *"),
+    ("refused 2||kept|", "20 m r|0 1 w,1 1 w,2 1 w,3 1 w,4 1 w,5 1 w,6 1 w,7 1 w,8 1 w,9 1 w,10 1 w,11 1 w,12 1 w,13 1 w,14 1 w,15 1 w,16 1 w|0 0 0|256 170 0|14 03 00 00 00 10 *"),
+    ("refused 1||kept|", "0 m r|0 1 w,1 1 w,2 1 w,3 1 w,4 1 w,5 1 w,6 1 w,7 1 w,8 1 w,9 1 w,10 1 w,11 1 w,12 1 w,13 1 w,14 1 w,15 1 w,16 1 w|17 0 0|256 170 0|14 03 00 00 00 10 *"),
+    ("refused 3||kept|", "20 m r|0 1 w,1 1 w,2 1 w,3 1 w,4 1 w,5 1 w,6 1 w,7 1 w,8 1 w,9 1 w,10 1 w,11 1 w,12 1 w,13 1 w,14 1 w,15 1 w,16 1 w|17 0 0|255 170 0|14 03 00 00 00 10 *"),
     ("refused 3", "20 m r|0 1 w,1 1 w,2 1 w,3 1 w,4 1 w,5 1 w,6 1 w,7 1 w,8 1 w,9 1 w,10 1 w,11 1 w,12 1 w,13 1 w,14 1 w,15 0 w|17 0 0|256 170 0|14 03 00 00 00 10 *"),
     ("refused 3", "20 m r|0 1 w,1 1 w,2 1 w,3 1 w,4 1 w,5 1 w,6 1 w,7 1 w,8 1 w,9 1 w,10 1 w,11 1 w,12 1 w,13 1 w,14 1 w,13 1 w|17 0 0|256 170 0|14 03 00 00 00 10 *"),
     // Line 3: first + count past 16 bits.

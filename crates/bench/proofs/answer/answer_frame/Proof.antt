@@ -11,11 +11,11 @@ use Rattle.bench.proofs.answer.answer_frame.Tie as tie
 two-areas-requires : tie.Need-two-areas-requires
 two-areas-requires c κs = search needs
 
-slice-aggregate-respond : tie.Need-slice-aggregate-respond
-slice-aggregate-respond c = search needs
+slice-aggregate-respond-by-value : tie.Need-slice-aggregate-respond-by-value
+slice-aggregate-respond-by-value c = search needs
 
-respond-requires : tie.Need-respond-requires
-respond-requires c κs = search needs
+respond-by-value-requires : tie.Need-respond-by-value-requires
+respond-by-value-requires c κs = search needs
 
 slice-aggregate-write-outcome : tie.Need-slice-aggregate-write-outcome
 slice-aggregate-write-outcome c = search needs
@@ -35,7 +35,7 @@ returns c =
     let called = wrote .before .before .before .before .before .before in
     let listed = called .before .before .before in
     let room = listed .before .before .before .before .pre in
-    let allowed = rw (listed .two-areas .ensures) at (called .respond .ensures) in
+    let allowed = rw (listed .two-areas .ensures) at (called .respond-by-value .ensures) in
     let fits = answer-fits _ _ allowed in
     written-stands _ _ _ _ _ (wrote .write-outcome .ensures) (omega (arith, fits, room))
     (record { answer = _; allowed = allowed; registers = refl; written = refl })
@@ -45,8 +45,8 @@ answer-frame-spec =
     tie.close
     (tie.spec
     two-areas-requires
-    slice-aggregate-respond
-    respond-requires
+    slice-aggregate-respond-by-value
+    respond-by-value-requires
     slice-aggregate-write-outcome
     write-outcome-requires
     same-length

@@ -15,13 +15,13 @@ is-right-requires c κs = search needs
 returns : tie.Need-returns
 returns c =
     let none = c .before .before .is-no-length in
-    here-if (none .result) (none .ensures) (c .if1 .taken) refl tt
+    λ areas judged. here-if (none .result) (none .ensures) (c .if1 .taken) refl tt
 
 returns-2 : tie.Need-returns-2
 returns-2 c =
     let none = c .before .before .before .is-no-length in
     let right = c .before .before .is-right in
-    past-if (none .result) (none .ensures) (c .before .if1 .left)
+    λ areas judged. past-if (none .result) (none .ensures) (c .before .if1 .left)
     (here-unless (right .result) (right .ensures) (c .if2 .taken) refl tt)
 
 decide-message-requires : tie.Need-decide-message-requires
@@ -31,8 +31,8 @@ returns-3 : tie.Need-returns-3
 returns-3 c =
     let none = c .before .before .before .before .is-no-length in
     let right = c .before .before .before .is-right in
-    past-if (none .result) (none .ensures) (c .before .before .if1 .left)
-    (past-unless (right .result) (right .ensures) (c .before .if2 .left) (c .decide-message .ensures))
+    λ areas judged. past-if (none .result) (none .ensures) (c .before .before .if1 .left)
+    (past-unless (right .result) (right .ensures) (c .before .if2 .left) (c .decide-message .ensures areas judged))
 
 pub decide-frame-spec : {M : Type 1} → statement M
 decide-frame-spec =

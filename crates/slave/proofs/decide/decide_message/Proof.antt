@@ -32,7 +32,7 @@ returns c =
     let read = c .before in
     let anothers = read .before .before .before .before .is-anothers in
     let another = rw (read .before .before .before .before .before .byte-at .ensures) at (anothers .ensures) in
-    here-if (anothers .result) another (c .if1 .taken) refl tt
+    λ areas judged. here-if (anothers .result) another (c .if1 .taken) refl tt
 
 returns-2 : tie.Need-returns-2
 returns-2 c =
@@ -40,7 +40,7 @@ returns-2 c =
     let anothers = read .before .before .before .before .is-anothers in
     let another = rw (read .before .before .before .before .before .byte-at .ensures) at (anothers .ensures) in
     let keyboard = read .before .before .before .is-at-the-keyboard in
-    past-if (anothers .result) another (c .before .if1 .left)
+    λ areas judged. past-if (anothers .result) another (c .before .if1 .left)
     (here-if (keyboard .result) (keyboard .ensures) (c .if2 .taken) refl tt)
 
 returns-3 : tie.Need-returns-3
@@ -50,7 +50,7 @@ returns-3 c =
     let another = rw (read .before .before .before .before .before .byte-at .ensures) at (anothers .ensures) in
     let keyboard = read .before .before .before .is-at-the-keyboard in
     let not-ready = read .before .before .is-not-ready in
-    past-if (anothers .result) another (c .before .before .if1 .left)
+    λ areas judged. past-if (anothers .result) another (c .before .before .if1 .left)
     (past-if (keyboard .result) (keyboard .ensures) (c .before .if2 .left)
     (here-if (not-ready .result) (not-ready .ensures) (c .if3 .taken) refl tt))
 
@@ -74,7 +74,7 @@ returns-4 c =
     let keyboard = read .before .before .before .is-at-the-keyboard in
     let not-ready = read .before .before .is-not-ready in
     let lookup = sym (read .function-of .ensures ∙ ap functionOf (read .before .byte-at2 .ensures)) in
-    past-if (anothers .result) another (c .before .before .before .before .if1 .left)
+    λ areas judged. past-if (anothers .result) another (c .before .before .before .before .if1 .left)
     (past-if (keyboard .result) (keyboard .ensures) (c .before .before .before .if2 .left)
     (past-if (not-ready .result) (not-ready .ensures) (c .before .before .if3 .left) (here (lookup ∙ c .enum-told .given .1) refl tt)))
 
@@ -86,10 +86,10 @@ returns-5 c =
     let keyboard = read .before .before .before .is-at-the-keyboard in
     let not-ready = read .before .before .is-not-ready in
     let lookup = sym (read .function-of .ensures ∙ ap functionOf (read .before .byte-at2 .ensures)) in
-    past-if (anothers .result) another (c .before .before .before .before .before .before .if1 .left)
+    λ areas judged. past-if (anothers .result) another (c .before .before .before .before .before .before .if1 .left)
     (past-if (keyboard .result) (keyboard .ensures) (c .before .before .before .before .before .if2 .left)
     (past-if (not-ready .result) (not-ready .ensures) (c .before .before .before .before .if3 .left)
-    (past (λ none. apart lookupPlace (lookup ∙ c .before .before .found .given .1) none (omega arith)) (c .decide-request .ensures))))
+    (past (λ none. apart lookupPlace (lookup ∙ c .before .before .found .given .1) none (omega arith)) (c .decide-request .ensures areas judged))))
 
 pub decide-message-spec : {M : Type 1} → statement M
 decide-message-spec =

@@ -2,12 +2,15 @@
 -- Assumes nothing.
 use mathlib.Core.Path.{refl, sym, ap, _∙_}
 use mathlib.Core.Logic.{inl, _≢_}
+use Prim.Native.Nat.{_≤_}
+use native.Mathlib.Omega.{arith}
 use lib.ListN.{length}
 use Rattle.promise.proofs.Promise.{if-taken, if-left}
 use Rattle.slave.specs.declared.decide.Request.{Request}
 use Rattle.slave.specs.Conditions.{countedFrom0}
 use Rattle.slave.specs.Deciding.{Reads}
 use Rattle.slave.proofs.Lines.{here, past, here-if, past-if}
+use Rattle.slave.proofs.Run.{judged-words}
 use Rattle.slave.proofs.Judging.{by-verdict}
 use borrow.Author.Needs.{needs}
 use Rattle.slave.proofs.decide.decide_request.Statement.{statement}
@@ -34,7 +37,7 @@ returns c =
     let asked = read .before .before .before .before .request-length in
     let start = read .before .before .before .before .before .before in
     let wrong : length (start .args .frame .now) ≢ asked .result = c .if1 .taken in
-    here (rw (start .pre) (λ e. wrong (e ∙ sym (asked .ensures)))) refl tt
+    λ areas judged. here (rw (start .pre) (λ e. wrong (e ∙ sym (asked .ensures)))) refl tt
 
 returns-2 : tie.Need-returns-2
 returns-2 c =
@@ -42,7 +45,7 @@ returns-2 c =
     let length = read .before .before .before .before .request-length .ensures in
     let count = read .before .before .before .quantity-of in
     let function = read .before .before .before .before .before .before .pre in
-    past (λ wrong. (rw function at wrong) (c .before .if1 .left ∙ length))
+    λ areas judged. past (λ wrong. (rw function at wrong) (c .before .if1 .left ∙ length))
     (here (rw function (sym (count .ensures) ∙ c .if2 .taken)) refl tt)
 
 returns-3 : tie.Need-returns-3
@@ -52,7 +55,7 @@ returns-3 c =
     let count = read .before .before .before .quantity-of in
     let limits = read .before .before .is-out-of-limits in
     let function = read .before .before .before .before .before .before .pre in
-    past (λ wrong. (rw function at wrong) (c .before .before .if1 .left ∙ length))
+    λ areas judged. past (λ wrong. (rw function at wrong) (c .before .before .if1 .left ∙ length))
     (past (λ none. c .before .if2 .left (count .ensures ∙ (rw function at none)))
     (here-if (limits .result) (rw function (limits .ensures)) (c .if3 .taken) refl tt))
 
@@ -65,7 +68,7 @@ returns-4 c =
     let start = read .before .number-at .ensures in
     let nothing = read .names-nothing in
     let function = read .before .before .before .before .before .before .pre in
-    past (λ wrong. (rw function at wrong) (c .before .before .before .if1 .left ∙ length))
+    λ areas judged. past (λ wrong. (rw function at wrong) (c .before .before .before .if1 .left ∙ length))
     (past (λ none. c .before .before .if2 .left (count .ensures ∙ (rw function at none)))
     (past-if (limits .result) (rw function (limits .ensures)) (c .before .if3 .left)
     (here (inl (rw start at (if-taken _ (nothing .result) (nothing .ensures) (c .if4 .taken)))) refl tt)))
@@ -73,15 +76,12 @@ returns-4 c =
 counted-from-0-requires : tie.Need-counted-from-0-requires
 counted-from-0-requires c κs = search needs
 
-judge-run-requires : tie.Need-judge-run-requires
-judge-run-requires c κs = search needs
-
 by-verdict-requires : tie.Need-by-verdict-requires
 by-verdict-requires c κs = search needs
 
 returns-5 : tie.Need-returns-5
 returns-5 c =
-    let read = c .before .before .before .before .before .before .before in
+    let read = c .before .before .before .before .before .before in
     let length = read .before .before .before .before .request-length .ensures in
     let count = read .before .before .before .quantity-of in
     let limits = read .before .before .is-out-of-limits in
@@ -89,7 +89,7 @@ returns-5 c =
     let nothing = read .names-nothing in
     let function = read .before .before .before .before .before .before .pre in
     let a = read .before .before .before .before .before .before .args in
-    let first = c .before .before .counted-from-0 in
+    let first = c .before .counted-from-0 in
     let request : Request = record { act = a .act; width = a .width; first = first .result; count = count .result } in
     let reads : Reads (a .station) (a .frame .now) request =
     record {
@@ -97,13 +97,16 @@ returns-5 c =
       first = first .ensures ∙ ap (countedFrom0 (a .station .counting)) start;
       count = count .ensures;
     } in
-    past (λ wrong. (rw function at wrong) (c .before .before .before .before .before .before .if1 .left ∙ length))
-    (past (λ none. c .before .before .before .before .before .if2 .left (count .ensures ∙ (rw function at none)))
-    (past-if (limits .result) (rw function (limits .ensures)) (c .before .before .before .before .if3 .left)
+    let some : 1 ≤ count .result = omega (arith, c .before .before .before .before .if2 .left) in
+    λ areas judged.
+    let words = rw (function, ← reads .first, ← reads .count) at judged in
+    past (λ wrong. (rw function at wrong) (c .before .before .before .before .before .if1 .left ∙ length))
+    (past (λ none. c .before .before .before .before .if2 .left (count .ensures ∙ (rw function at none)))
+    (past-if (limits .result) (rw function (limits .ensures)) (c .before .before .before .if3 .left)
     (rw (c .by-verdict .ensures)
-    (by-verdict (a .station) (a .frame .now) request reads (a .areas)
-    (λ n. if-left _ (nothing .result) (nothing .ensures) (c .before .before .before .if4 .left) (rw start n))
-    (c .before .judge-run .result) (c .before .judge-run .ensures)))))
+    (by-verdict (a .station) (a .frame .now) request reads areas
+    (λ n. if-left _ (nothing .result) (nothing .ensures) (c .before .before .if4 .left) (rw start n))
+    (a .verdict) (judged-words areas (a .width) (first .result) (count .result) some (a .verdict) words)))))
 
 pub decide-request-spec : {M : Type 1} → statement M
 decide-request-spec =
@@ -119,6 +122,5 @@ decide-request-spec =
     returns-3
     returns-4
     counted-from-0-requires
-    judge-run-requires
     by-verdict-requires
     returns-5)

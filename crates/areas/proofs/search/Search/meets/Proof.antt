@@ -22,12 +22,10 @@ returns-3 : tie.Need-returns-3
 returns-3 c = search needs
 
 returns-4 : tie.Need-returns-4
-returns-4 c = search needs
-
-returns-5 : tie.Need-returns-5
-returns-5 c =
-    let args = c .before .before .before .before .before .before .before .before .before .before .args in
-    meets (args .area) (args .self .first) (args .self .end) (omega arith) (omega arith) (omega arith) (omega arith)
+returns-4 c =
+    let start = c .before .before .before .before .before .before .before .before in
+    let args = start .args in
+    meets (args .area) (args .self .first) (args .self .end) (omega arith) (omega arith) (start .pre) (omega arith)
 
 pub meets-spec : {M : Type 1} → statement M
-meets-spec = tie.close (tie.spec cast-if1 returns end-of-requires returns-2 returns-3 returns-4 returns-5)
+meets-spec = tie.close (tie.spec cast-if1 returns end-of-requires returns-2 returns-3 returns-4)

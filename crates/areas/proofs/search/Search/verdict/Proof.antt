@@ -7,22 +7,22 @@ use Rattle.areas.proofs.search.Search.verdict.Tie as tie
 returns : tie.Need-returns
 returns c =
     let s = c .before .before .args .self in
-    λ areas first count all settled so. word-in-no-area areas first count s so all settled (c .if1 .taken)
+    λ areas words run so kept. word-in-no-area areas words run s so kept (c .if1 .taken)
 
 returns-2 : tie.Need-returns-2
 returns-2 c =
     let s = c .before .before .before .args .self in
-    λ areas first count all settled so. (
-      no-word-in-no-area areas first count s so (c .before .if1 .left),
-      so .found (c .if2 .taken),
+    λ areas words run so kept. (
+      no-word-in-no-area areas words run s so kept (c .before .if1 .left),
+      so .known kept .found (c .if2 .taken),
     )
 
 returns-3 : tie.Need-returns-3
 returns-3 c =
     let s = c .before .before .before .args .self in
-    λ areas first count all settled so. (
-      no-word-in-no-area areas first count s so (c .before .if1 .left),
-      no-word-read-only areas first count s so all (c .if2 .left),
+    λ areas words run so kept. (
+      no-word-in-no-area areas words run s so kept (c .before .if1 .left),
+      no-word-read-only areas words run s so kept (c .if2 .left),
     )
 
 pub verdict-spec : {M : Type 1} → statement M
