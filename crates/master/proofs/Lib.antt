@@ -1,0 +1,16 @@
+mod Numbers
+mod Lines
+mod Body
+pub mod Framed
+pub mod SpareBits
+mod Within
+pub mod Fits
+mod Fitting
+mod Requests
+mod Readings
+pub mod Accepting
+mod Accepted
+mod Damaged
+pub mod Laws
+mod Examples
+mod Contracts

@@ -1,0 +1,66 @@
+-- `build` meets its contract.
+-- Assumes nothing.
+use mathlib.Core.Path.{_≡_, refl}
+use mathlib.Core.Logic.{inl, inr, ⊎-elim}
+use Prim.Native.Nat.{_<_}
+use native.Mathlib.Omega.{arith}
+use lib.ListN.{length}
+use Rattle.promise.proofs.Promise.{if-taken, if-left}
+use Rattle.master.specs.Requests.{dataSize}
+use Rattle.master.specs.Refusals.{leastRoom, FieldsRefused}
+use borrow.Author.Needs.{needs}
+use Rattle.master.proofs.build.Statement.{statement}
+use Rattle.master.proofs.build.Tie as tie
+
+-- ---- past both tests no part of line 70 applies
+
+abbrev asked : tie.Else2 → tie.Start
+asked c = c .before .before .before .before .before .before
+
+fields-kept : (c : tie.Else2) → FieldsRefused (asked c .args .request) (length (asked c .args .frame .now)) → ⊥
+fields-kept c =
+    let refused = c .before .before .before .is-refused in
+    if-left _ (refused .result) (refused .ensures) (c .before .if1 .left)
+
+size-kept : (c : tie.Else2) → length (asked c .args .carried .now) ≡ dataSize (asked c .args .request)
+size-kept c = omega (arith, c .before .before .data-size .ensures)
+
+is-refused-requires : tie.Need-is-refused-requires
+is-refused-requires c κs = search needs
+
+data-size-requires : tie.Need-data-size-requires
+data-size-requires c κs = search needs
+
+returns : tie.Need-returns
+returns c =
+    let refused = c .before .before .is-refused in
+    (inl (inr (if-taken _ (refused .result) (refused .ensures) (c .if1 .taken)), refl), refl)
+
+returns-2 : tie.Need-returns-2
+returns-2 c = (inl (inl (omega (arith, c .before .before .data-size .ensures)), refl), refl)
+
+put-request-requires : tie.Need-put-request-requires
+put-request-requires c κs =
+    let kept = fields-kept (c .before) in
+    let room : length (asked (c .before) .args .frame .now) < leastRoom → ⊥ = λ h. kept (inr (inr h)) in
+    (λ out. kept (inl out), size-kept (c .before), omega arith)
+
+same-length : tie.Need-same-length
+same-length c = search needs
+
+returns-3 : tie.Need-returns-3
+returns-3 c =
+    let left = c .before .before .before .before in
+    ((⊎-elim (λ other. other (size-kept left)) (fields-kept left), tt), c .before .before .put-request .ensures)
+
+pub build-spec : {M : Type 1} → statement M
+build-spec =
+    tie.close
+    (tie.spec
+    is-refused-requires
+    data-size-requires
+    returns
+    returns-2
+    put-request-requires
+    same-length
+    returns-3)

@@ -1,0 +1,9 @@
+pub mod Requests
+pub mod Refusals
+pub mod Building
+pub mod Reading
+pub mod Laws
+pub mod Examples
+pub mod Spare
+pub mod Fitting
+pub mod Putting

@@ -1,0 +1,130 @@
+// A master's half: requests are built, and replies are read beside the request that they answer. Of a station's areas, counting
+// and state nothing is known here. No public function has a `requires`. The contracts cite specs/Building.antt and
+// specs/Reading.antt.
+mod fit;
+mod limits;
+mod put;
+mod spare;
+
+use frames::Code;
+ghost use mathlib.Core.Path.{_≡_};
+ghost use Rattle.master.specs.Requests.{functionNumber};
+ghost use Rattle.master.specs.Refusals.{refusalNumber};
+ghost use Rattle.master.specs.Building.{Build};
+ghost use Rattle.master.specs.Reading.{ReadReply};
+
+// The fewest bytes of a lent buffer.
+pub const LEAST_ROOM: usize = 256;
+
+// The eight functions, each with its number.
+pub enum Function {
+    ReadBits01,
+    ReadBits02,
+    ReadWords03,
+    ReadWords04,
+    WriteBit05,
+    WriteWord06,
+    WriteBits0F,
+    WriteWords10,
+}
+
+// The fields of a request, but for the data of 0F and 10.
+pub struct Request {
+    // 1 to 255.
+    pub station: u8,
+    pub function: Function,
+    // As it goes over the line: what it addresses, the station's counting says.
+    pub start: u16,
+    // The quantity; for 05 the bit's value, FF00 on or 0000 off; for 06 the word's value.
+    pub operand: u16,
+}
+
+// Why nothing is built, or a reply not read.
+pub enum Refusal {
+    // 70: quantity or bit value out of limits, data not of the quantity's size, station 0, or a lent buffer under 256 bytes.
+    Request,
+    // 71: reply under 5 bytes or bad check word.
+    CheckWord,
+    // 72: reply does not fit the request, or an exception code other than 1, 2, 3, 4 and 8.
+    Reply,
+}
+
+pub enum Built {
+    Refused(Refusal),
+    // The buffer starts with a request of so many bytes.
+    Frame(usize),
+}
+
+pub enum Reading {
+    Refused(Refusal),
+    // The buffer starts with the bits or words, packed as on the line, in so many bytes.
+    Data(usize),
+    // The write was done.
+    Written,
+    // The station answers with an exception.
+    Exception(Code),
+}
+
+// Builds a request. `carried` is its data, packed as on the line: the bits of 0F, spare bits whatever they are, or the words of 10;
+// for the other functions there is none. The bytes of the buffer beyond the request keep their content, and a refusal changes none.
+pub fn build(request: Request, carried: &[u8], frame: &mut [u8]) -> Built
+    ensures { λ r. ⌜ Build request (now (carried .entry)) (now (frame .entry)) r (now (frame .exit)) ⌝ }
+{
+    let refused = limits::is_refused(request, frame.len());
+    let size = limits::data_size(request);
+    if refused {
+        return Built::Refused(Refusal::Request);
+    }
+    if carried.len() != size {
+        return Built::Refused(Refusal::Request);
+    }
+    Built::Frame(put::put_request(request, carried, frame))
+}
+
+// Reads a reply beside the request that it answers. The bytes of the buffer beyond the data keep their content; where no data are
+// read, all do.
+pub fn read_reply(request: Request, reply: &[u8], buffer: &mut [u8]) -> Reading
+    ensures { λ r. ⌜ ReadReply request (now (reply .entry)) (now (buffer .entry)) r (now (buffer .exit)) ⌝ }
+{
+    let refused = limits::is_refused(request, buffer.len());
+    let right = check_word::is_right(reply);
+    if refused {
+        return Reading::Refused(Refusal::Request);
+    }
+    if reply.len() < fit::SHORTEST_REPLY {
+        return Reading::Refused(Refusal::CheckWord);
+    }
+    if !right {
+        return Reading::Refused(Refusal::CheckWord);
+    }
+    let reading = fit::fit(request, reply);
+    fit::take_data(reading, reply, buffer);
+    reading
+}
+
+// The number of a function.
+pub fn function_number(function: Function) -> u8
+    ensures { λ r. ⌜ r ≡ functionNumber function ⌝ }
+{
+    match function {
+        Function::ReadBits01 => 0x01,
+        Function::ReadBits02 => 0x02,
+        Function::ReadWords03 => 0x03,
+        Function::ReadWords04 => 0x04,
+        Function::WriteBit05 => 0x05,
+        Function::WriteWord06 => 0x06,
+        Function::WriteBits0F => 0x0f,
+        Function::WriteWords10 => 0x10,
+    }
+}
+
+// The number of a refusal.
+pub fn refusal_number(why: Refusal) -> u8
+    ensures { λ r. ⌜ r ≡ refusalNumber why ⌝ }
+{
+    match why {
+        Refusal::Request => 70,
+        Refusal::CheckWord => 71,
+        Refusal::Reply => 72,
+    }
+}

@@ -1,0 +1,88 @@
+// A request that is not refused, written over the start of the lent buffer.
+use crate::Request;
+use crate::limits;
+use crate::spare;
+use frames::Act;
+use frames::BYTE_COUNT_AT;
+use frames::DATA_AT;
+use frames::ECHOED;
+use frames::Width;
+ghost use mathlib.Core.Path.{_≡_};
+ghost use mathlib.Core.List.{_++_};
+ghost use mathlib.Core.Bool.{true};
+ghost use Prim.Native.Nat.{_+_, _≤_, _<_};
+ghost use lib.ListN.{length, drop};
+ghost use Rattle.check_word.specs.Frame.{Put};
+ghost use Rattle.registers.specs.Packing.{Filled};
+ghost use Rattle.frames.specs.Limits.{bytesFor};
+ghost use Rattle.master.specs.Requests.{requestHead, dataSize};
+ghost use Rattle.master.specs.Refusals.{leastRoom, OutOfLimits};
+ghost use Rattle.master.specs.Building.{PackedAgain, RequestPut};
+ghost use Rattle.master.specs.Putting.{RunPut};
+
+// Writes a request, and tells its length.
+pub(crate) fn put_request(request: Request, carried: &[u8], frame: &mut [u8]) -> usize
+    requires { ⌜ (OutOfLimits request → ⊥) × (length (now carried) ≡ dataSize request) × (leastRoom ≤ length (now frame)) ⌝ }
+    ensures { λ r. ⌜ RequestPut request (now (carried .entry)) (now (frame .entry)) r (now (frame .exit)) ⌝ }
+{
+    let function = request.function;
+    let width = limits::width_of(function);
+    put_head(request, frame);
+    match limits::act_of(function) {
+        Act::Read => put_end(ECHOED, frame),
+        Act::WriteOne => put_end(ECHOED, frame),
+        Act::WriteRun => {
+            put_run(width, request.operand, carried, frame);
+            put_end(DATA_AT + carried.len(), frame)
+        }
+    }
+}
+
+// Station, function, start, and quantity or value.
+fn put_head(request: Request, frame: &mut [u8])
+    requires { ⌜ 6 ≤ length (now frame) ⌝ }
+    ensures { λ _. ⌜ now (frame .exit) ≡ requestHead request ++ drop 6 (now (frame .entry)) ⌝ }
+{
+    let function = request.function;
+    frame[0] = request.station;
+    frame[1] = crate::function_number(function);
+    frame[2] = (request.start / 256) as u8;
+    frame[3] = (request.start % 256) as u8;
+    frame[4] = (request.operand / 256) as u8;
+    frame[5] = (request.operand % 256) as u8;
+}
+
+// Byte count and data, spare bits as 0.
+fn put_run(width: Width, count: u16, carried: &[u8], frame: &mut [u8])
+    requires { ⌜ (1 ≤ count) × (length (now carried) ≡ bytesFor width count) × (length (now carried) < 256)
+        × (7 + length (now carried) ≤ length (now frame)) ⌝ }
+    ensures { λ _. ⌜ RunPut width count (now (carried .entry)) (now (frame .entry)) (now (frame .exit)) ⌝ }
+{
+    frame[BYTE_COUNT_AT] = carried.len() as u8;
+    put_data(width, count, carried, &mut frame[DATA_AT..]);
+}
+
+// The data, packed again: the spare bits of a last byte are turned off.
+fn put_data(width: Width, count: u16, carried: &[u8], buffer: &mut [u8])
+    requires { ⌜ (1 ≤ count) × (length (now carried) ≡ bytesFor width count) × (length (now carried) ≤ length (now buffer)) ⌝ }
+    ensures { λ _. ⌜ Filled (length (now (carried .entry))) (PackedAgain width count (now (carried .entry)))
+        (now (buffer .entry)) (now (buffer .exit)) ⌝ }
+{
+    bytes::copy(carried, buffer);
+    match width {
+        Width::Bit => {
+            let last = carried.len() - 1;
+            buffer[last] = spare::without_spare_bits(count, carried[last]);
+        }
+        Width::Word => {}
+    }
+}
+
+// The check word behind the first n bytes. Tells how many bytes there are then.
+fn put_end(n: usize, frame: &mut [u8]) -> usize
+    requires { ⌜ n + 2 ≤ length (now frame) ⌝ }
+    ensures { λ r. ⌜ (r ≡ n + 2) × Put n (now (frame .entry)) true (now (frame .exit)) ⌝ }
+{
+    check_word::put_check_word(frame, n);
+    n + 2
+}
