@@ -1,0 +1,1 @@
+// That master and slave understand each other: statements and their proofs, no code.
