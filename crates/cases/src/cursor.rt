@@ -1,9 +1,12 @@
 // A place in a line, from which letters and numbers are read one behind the other. Where one meets what does not belong there, it
 // has failed for good.
+use crate::cut;
 ghost use Prim.Native.Nat.{_≤_};
 
 // The most characters of a line.
 pub(crate) const LONGEST_LINE: usize = 4096;
+
+pub(crate) const LARGEST_NUMBER: usize = 65535;
 
 pub(crate) struct Cursor {
     pub(crate) at: usize,
@@ -13,11 +16,12 @@ pub(crate) struct Cursor {
 }
 
 impl Cursor {
-    // The start of a line, which fails if the line is too long.
-    pub(crate) fn start(line: &[u8]) -> Self {
+    // Behind what a line starts with. Fails if it starts otherwise, or is too long.
+    pub(crate) fn behind(line: &[u8], word: &[u8]) -> Self {
+        let there = check::same(cut::front(line, word.len()), word);
         Cursor {
-            at: 0,
-            good: line.len() <= LONGEST_LINE,
+            at: word.len(),
+            good: there && line.len() <= LONGEST_LINE,
             value: 0,
         }
     }

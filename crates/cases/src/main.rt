@@ -1,8 +1,11 @@
-// Whole calls of the slave as lines: each line of the input is a call, and a line of the output says what it answered and left.
-// docs/CASES.md has the format.
+// Calls of the slave and of the master's half as lines: each line of the input asks for some, and a line of the output says what
+// they answered and left. docs/CASES.md has the format.
 mod answer;
+mod ask;
 mod cursor;
 mod cut;
+mod lent;
+mod make;
 mod parse;
 mod print;
 mod sink;

@@ -1,6 +1,9 @@
 // A line is read, part by part, into a case: what a call of the slave is made with.
 use crate::cursor::Cursor;
+use crate::cursor::LARGEST_NUMBER;
 use crate::cut;
+use crate::lent::Lent;
+use crate::lent::MOST_ROOM;
 use areas::Access;
 use areas::Area;
 use areas::AreaList;
@@ -14,12 +17,8 @@ ghost use mathlib.Core.Path.{_≡_};
 ghost use Prim.Native.Nat.{_≤_};
 ghost use lib.ListN.{length};
 
-// The most words of an image, and the most bytes of a reply buffer.
+// The most words of an image.
 pub(crate) const MOST_WORDS: usize = 8192;
-
-pub(crate) const MOST_ROOM: usize = 512;
-
-const LARGEST_NUMBER: usize = 65535;
 
 // What `letter` says of the bar in `,|`.
 const BAR: usize = 1;
@@ -31,11 +30,17 @@ pub(crate) struct Case {
     pub(crate) list: AreaList,
     // the words of the image
     pub(crate) words: usize,
-    // the bytes of the reply buffer, and its background
-    pub(crate) room: usize,
-    pub(crate) start: u8,
-    pub(crate) step: u8,
+    // the reply buffer
+    pub(crate) lent: Lent,
     // the bytes of the frame
+    pub(crate) length: usize,
+}
+
+// The last two parts of a line of any kind: a lent buffer, and bytes, which stand in a buffer.
+pub(crate) struct EndsPart {
+    pub(crate) good: bool,
+    pub(crate) lent: Lent,
+    // how many bytes
     pub(crate) length: usize,
 }
 
@@ -63,37 +68,57 @@ struct SeriesPart {
     next: Cursor,
 }
 
-// Reads a line, its image and its frame into the start of the buffers.
-pub(crate) fn read(line: &[u8], image: &mut [u16], frame: &mut [u8; MOST_BYTES]) -> Case
+// Reads what a call is made with, its image and its frame into the start of the buffers.
+pub(crate) fn read(line: &[u8], c: Cursor, image: &mut [u16], frame: &mut [u8; MOST_BYTES]) -> Case
     requires { ⌜ length (now image) ≡ 8192 ⌝ }
     ensures { λ r. ⌜ r .words ≤ 8192 ⌝ }
-    ensures { λ r. ⌜ r .room ≤ 512 ⌝ }
+    ensures { λ r. ⌜ r .lent .room ≤ 512 ⌝ }
 {
-    let head = station(line);
+    let head = station(line, c);
     let listed = areas(line, head.next);
     let words = series(line, listed.next, MOST_WORDS);
     let n = words.count;
     let c = fill_image(line, words, &mut image[0..n]);
-    let room = series(line, c, MOST_ROOM);
-    let c = room.next.letter(line, b"|");
-    let c = read_frame(line, c, frame);
+    let ends = ends(line, c, frame);
     let station = head.station;
     let list = listed.list;
+    let lent = ends.lent;
     Case {
-        good: c.good,
+        good: ends.good,
         station,
         list,
         words: n,
-        room: room.count,
-        start: (room.start % 256) as u8,
-        step: (room.step % 256) as u8,
+        lent,
+        length: ends.length,
+    }
+}
+
+// Reads the last two parts, the bytes into the start of the buffer.
+pub(crate) fn ends(line: &[u8], c: Cursor, frame: &mut [u8; MOST_BYTES]) -> EndsPart
+    ensures { λ r. ⌜ r .lent .room ≤ 512 ⌝ }
+{
+    let part = series(line, c, MOST_ROOM);
+    let c = part.next.letter(line, b"|");
+    let c = read_frame(line, c, frame);
+    EndsPart {
+        good: c.good,
+        lent: Lent {
+            room: part.count,
+            start: (part.start % 256) as u8,
+            step: (part.step % 256) as u8,
+        },
         length: c.value,
     }
 }
 
+// The bytes that were read, of the buffer that they stand in.
+pub(crate) fn given(bytes: &[u8; MOST_BYTES], length: usize) -> &[u8] {
+    cut::front(bytes, length)
+}
+
 // Reads the station and its bar.
-fn station(line: &[u8]) -> StationPart {
-    let c = Cursor::start(line).number(line, 255);
+fn station(line: &[u8], c: Cursor) -> StationPart {
+    let c = c.number(line, 255);
     let own = c.value as u8;
     let c = c.letter(line, b" ").letter(line, b"mj");
     let counting = counting_of(c.value);

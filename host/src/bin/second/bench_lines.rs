@@ -3,7 +3,7 @@
 use crate::bench::{AREAS, STATION};
 use crate::drawn::Drawing;
 use crate::hex;
-use crate::lists::{frame_text, Entry};
+use crate::lists::{expanded, frame_text, Entry};
 
 const SEED: u64 = 339_580;
 
@@ -95,14 +95,6 @@ const SEQUENCE: &[Entry] = &[
     ("bad line", "bad line"),
     ("reply 14 03 04 02 E8 01 F4 3F 69", "14 03 00 01 00 02 97 0E"),
 ];
-
-fn expanded(template: &str) -> String {
-    if template.contains(['*', '^']) {
-        frame_text(template)
-    } else {
-        template.to_string()
-    }
-}
 
 /// The input under way, and what draws lines for it.
 struct Writing {

@@ -1,8 +1,8 @@
-//! Whole calls as lines, in the format of docs/CASES.md: read one, make the call, say what it left.
+//! Whole calls of the slave as lines, in the format of docs/CASES.md: read one, make the call, say what
+//! it left.
 
 use crate::bits::Image;
 use crate::hex;
-use crate::lines::Answerer;
 use crate::slave::{self, Area, Counting, Outcome, State, Station};
 
 /// The call a line says, and room kept from line to line.
@@ -12,6 +12,8 @@ pub struct Calls {
     pub image: Image,
     pub buffer: Vec<u8>,
     pub frame: Vec<u8>,
+    /// How many bytes of the buffer the call made last wrote.
+    pub sent: usize,
     before: Image,
     background: Vec<u8>,
 }
@@ -29,6 +31,7 @@ impl Calls {
             image: Image::default(),
             buffer: Vec::new(),
             frame: Vec::new(),
+            sent: 0,
             before: Image::default(),
             background: Vec::new(),
         }
@@ -36,13 +39,16 @@ impl Calls {
 
     /// None for a bad line.
     pub fn read(&mut self, line: &[u8]) -> Option<()> {
-        if line.len() > Self::MOST {
-            return None;
-        }
-        let mut parts = line.split(|&character| character == b'|');
+        let mut parts = line.splitn(4, |&character| character == b'|');
         self.station = station(parts.next()?)?;
         self.read_areas(parts.next()?)?;
         self.read_image(parts.next()?)?;
+        self.read_ends(parts.next()?)
+    }
+
+    /// The last two parts, which lines of every kind have: a lent buffer and bytes.
+    pub fn read_ends(&mut self, parts: &[u8]) -> Option<()> {
+        let mut parts = parts.split(|&character| character == b'|');
         self.read_buffer(parts.next()?)?;
         let frame = parts.next()?;
         (parts.next().is_none() && hex::read(frame, &mut self.frame)).then_some(())
@@ -105,11 +111,10 @@ impl Calls {
             &mut self.buffer,
             &self.frame,
         );
+        self.sent = length;
         out.extend(name(outcome).bytes());
+        left(&self.buffer, &self.background, length, out);
         out.push(b'|');
-        hex::write(&self.buffer[..length], out);
-        let kept = self.buffer[length..] == self.background[length..];
-        out.extend(if kept { "|kept|" } else { "|spilt|" }.bytes());
         for (index, place) in self.image.differing(&self.before).enumerate() {
             let comma = if index > 0 { "," } else { "" };
             out.extend(format!("{comma}{place} {}", self.image.word(place)).bytes());
@@ -118,25 +123,20 @@ impl Calls {
     }
 }
 
+/// The bytes written, and whether those beyond have their background still.
+pub fn left(buffer: &[u8], background: &[u8], written: usize, out: &mut Vec<u8>) {
+    out.push(b'|');
+    hex::write(&buffer[..written], out);
+    let kept = buffer[written..] == background[written..];
+    out.extend(if kept { "|kept" } else { "|spilt" }.bytes());
+}
+
 pub fn name(outcome: Outcome) -> String {
     match outcome {
         Outcome::Refused(number) => format!("refused {number}"),
         Outcome::Silent(number) => format!("silent {number}"),
         Outcome::Exception(code) => format!("exception {code}"),
         Outcome::Reply => "reply".to_string(),
-    }
-}
-
-impl Answerer for Calls {
-    const MOST: usize = 4096;
-
-    fn answer(&mut self, line: &[u8], out: &mut Vec<u8>) {
-        match self.read(line) {
-            Some(()) => {
-                self.make(out);
-            }
-            None => out.extend(b"bad line"),
-        }
     }
 }
 
@@ -150,7 +150,7 @@ fn fields<const N: usize>(text: &[u8]) -> Option<[&[u8]; N]> {
     rest.next().is_none().then_some(found)
 }
 
-fn numbers<const N: usize>(text: &[u8]) -> Option<[u16; N]> {
+pub fn numbers<const N: usize>(text: &[u8]) -> Option<[u16; N]> {
     let mut found = [0; N];
     for (value, field) in found.iter_mut().zip(fields::<N>(text)?) {
         *value = number(field)?;

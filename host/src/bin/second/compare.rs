@@ -2,7 +2,7 @@
 
 use crate::bench::Bench;
 use crate::bench_lines;
-use crate::calls::Calls;
+use crate::cases::Cases;
 use crate::drawn::Drawing;
 use crate::lines::{self, Answerer};
 use crate::tally::Tally;
@@ -50,7 +50,7 @@ fn run(
         let mut stdout = BufReader::with_capacity(1 << 16, stdout);
         let (mut line, mut wanted, mut got) = (Vec::new(), Vec::new(), Vec::new());
         while next(&mut line, &mut wanted)? {
-            if !lines::next(&mut stdout, &mut got, 2 * Calls::MOST)? {
+            if !lines::next(&mut stdout, &mut got, 2 * Cases::MOST)? {
                 writeln!(output, "the output ends after {} lines", result.lines)?;
                 result.even = false;
                 break;
@@ -93,22 +93,22 @@ fn start(program: &[&str]) -> io::Result<Child> {
         .spawn()
 }
 
-/// Whether the program answers `count` drawn calls as this slave does.
+/// Whether the program answers `count` drawn lines as this one does.
 pub fn drawn(seed: u64, count: u64, program: &[&str], output: &mut impl Write) -> io::Result<bool> {
     let mut tally = Tally::default();
-    let (mut drawing, mut calls, mut left) = (Drawing::new(seed), Calls::new(), count);
+    let (mut drawing, mut cases, mut left) = (Drawing::new(seed), Cases::new(), count);
     let next = |line: &mut Vec<u8>, wanted: &mut Vec<u8>| {
         if left == 0 {
             return Ok(false);
         }
         left -= 1;
-        drawing.call(line);
+        drawing.line(line);
         wanted.clear();
-        if calls.read(line).is_none() {
-            return Err(io::Error::other("a drawn call is a bad line"));
-        }
-        let outcome = calls.make(wanted);
-        tally.count(&calls, outcome);
+        let Some(asked) = cases.read(line) else {
+            return Err(io::Error::other("a drawn line is a bad line"));
+        };
+        let told = cases.make(asked, wanted);
+        tally.count(&cases.call, told);
         Ok(true)
     };
     let result = run(
@@ -119,7 +119,7 @@ pub fn drawn(seed: u64, count: u64, program: &[&str], output: &mut impl Write) -
     )?;
     writeln!(
         output,
-        "{} calls, seed {seed}, {} differences",
+        "{} lines, seed {seed}, {} differences",
         result.lines, result.differences
     )?;
     tally.write(output)?;
@@ -129,7 +129,7 @@ pub fn drawn(seed: u64, count: u64, program: &[&str], output: &mut impl Write) -
 pub fn write_drawn(seed: u64, count: u64, output: &mut dyn Write) -> io::Result<()> {
     let (mut drawing, mut line) = (Drawing::new(seed), Vec::new());
     for _ in 0..count {
-        drawing.call(&mut line);
+        drawing.line(&mut line);
         line.push(b'\n');
         output.write_all(&line)?;
     }

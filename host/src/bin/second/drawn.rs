@@ -32,15 +32,23 @@ impl Drawing {
 
     /// Draws a call and puts its line, without a line feed, in place of what `line` held.
     pub fn call(&mut self, line: &mut Vec<u8>) -> Option<Damage> {
+        let (station, words) = self.settings();
+        let damage = self.draw_frame(station, words);
+        line.clear();
+        self.write_settings(station, words, line);
+        self.write_ends(line);
+        damage
+    }
+
+    /// A station and how many words its image has; the areas are in `self.areas`.
+    pub fn settings(&mut self) -> (Station, usize) {
         let station = self.station();
         let words = self.words();
         self.draw_areas(words);
         if self.random.in_thousand(25) {
             self.break_areas(words);
         }
-        let damage = self.draw_frame(station, words);
-        self.write(station, words, line);
-        damage
+        (station, words)
     }
 
     fn station(&mut self) -> Station {
@@ -171,7 +179,7 @@ impl Drawing {
         damaged.then(|| self.damage())
     }
 
-    fn any_data(&mut self, length: usize) {
+    pub fn any_data(&mut self, length: usize) {
         for _ in 0..length {
             self.frame.push(self.random.byte());
         }
@@ -196,7 +204,8 @@ impl Drawing {
         }
     }
 
-    fn request(&mut self, counting: Counting, words: usize) {
+    /// Puts a request behind its address: function, start, and what follows up to the check word.
+    pub fn request(&mut self, counting: Counting, words: usize) {
         let any = self.random.one_of(FUNCTIONS);
         let function = self
             .random
@@ -309,7 +318,7 @@ impl Drawing {
         self.any_data(count);
     }
 
-    fn two_bytes(&mut self, value: u16) {
+    pub fn two_bytes(&mut self, value: u16) {
         self.frame.extend(value.to_be_bytes());
     }
 
@@ -317,7 +326,7 @@ impl Drawing {
         self.frame[line_bit / 8] ^= 1 << (line_bit % 8);
     }
 
-    fn damage(&mut self) -> Damage {
+    pub fn damage(&mut self) -> Damage {
         let bits = self.frame.len() * 8;
         let kind = self
             .random
@@ -347,8 +356,8 @@ impl Drawing {
         kind
     }
 
-    fn write(&mut self, station: Station, words: usize, line: &mut Vec<u8>) {
-        line.clear();
+    /// Station, areas and image, with their bars.
+    pub fn write_settings(&mut self, station: Station, words: usize, line: &mut Vec<u8>) {
         self.number(usize::from(station.own), line);
         line.extend(match station.counting {
             Counting::ModBus => b" m ",
@@ -384,6 +393,10 @@ impl Drawing {
             self.numbers([place, usize::from(value)], line);
         }
         line.push(b'|');
+    }
+
+    /// A lent buffer, and the bytes of `self.frame`.
+    pub fn write_ends(&mut self, line: &mut Vec<u8>) {
         let bytes = match self.random.below(100) {
             0 => 255,
             1 => self.random.below(512),
@@ -400,7 +413,7 @@ impl Drawing {
         }
     }
 
-    fn numbers<const N: usize>(&mut self, values: [usize; N], line: &mut Vec<u8>) {
+    pub fn numbers<const N: usize>(&mut self, values: [usize; N], line: &mut Vec<u8>) {
         for (index, value) in values.into_iter().enumerate() {
             if index > 0 {
                 line.push(b' ');

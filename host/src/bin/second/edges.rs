@@ -1,8 +1,7 @@
 //! Document 01's answer table from both sides, its "Both sides of each edge", and its slips.
 
 use crate::check_word::seal;
-use crate::hex;
-use crate::lists::{Entry, Group};
+use crate::lists::{hex_text, Entry, Group};
 
 /// Lines 1 to 4: what is lent and set. The frame is right unless a comment says otherwise.
 #[rustfmt::skip]
@@ -409,9 +408,7 @@ pub fn every_function() -> impl Iterator<Item = String> {
 }
 
 fn line(own: &str, state: &str, areas: &str, image: &str, buffer: &str, frame: &[u8]) -> String {
-    let mut text = Vec::new();
-    hex::write(frame, &mut text);
-    let frame = String::from_utf8_lossy(&text);
+    let frame = hex_text(frame);
     format!("{own} m {state}|{areas}|{image}|{buffer} 170 0|{frame}")
 }
 

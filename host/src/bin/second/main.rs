@@ -1,19 +1,26 @@
-//! The second program: an independent slave by document 01, its lists of calls, and comparisons with it.
+//! The second program: an independent slave by document 01 and master's half by document 02, §1, lists of
+//! lines for both, and comparisons with them.
 
 mod bench;
 mod bench_lines;
 mod bits;
+mod builds;
 mod calls;
+mod cases;
 mod check_word;
 mod compare;
 mod drawn;
+mod drawn_master;
 mod edges;
+mod exchanges;
 mod hex;
 mod lines;
 mod lists;
 mod malformed;
+mod master;
 mod published;
 mod random;
+mod readings;
 mod slave;
 mod stored;
 mod tally;
@@ -23,10 +30,10 @@ use std::process::ExitCode;
 
 const USAGE: &str = "\
 usage: second bench                               the bench program
-       second cases                               answers whole calls
+       second cases                               answers the lines of `cases`
        second input bench|lines|cases             writes a stored input
-       second drawn SEED COUNT                    writes drawn calls
-       second compare SEED COUNT PROGRAM [ARG]..  drawn calls against `cases` of another program
+       second drawn SEED COUNT                    writes drawn lines of `cases`
+       second compare SEED COUNT PROGRAM [ARG]..  drawn lines against `cases` of another program
        second compare-bench PROGRAM [ARG]..       the lines against another bench program
 ";
 
@@ -36,7 +43,7 @@ fn run(words: &[&str], output: &mut impl Write) -> io::Result<Option<bool>> {
     let mut fine = true;
     match words {
         ["bench"] => lines::run(bench::Bench::new(), input, &mut *output)?,
-        ["cases"] => lines::run(calls::Calls::new(), input, &mut *output)?,
+        ["cases"] => lines::run(cases::Cases::new(), input, &mut *output)?,
         ["input", "bench"] => output.write_all(bench::INPUT.as_bytes())?,
         ["input", "lines"] => output.write_all(&bench_lines::input())?,
         ["input", "cases"] => stored::write(output)?,

@@ -1,40 +1,80 @@
-//! The stored input of `cases`: all lists, then drawn calls from a fixed seed.
+//! The stored input of `cases`: all lists, then drawn lines from fixed seeds.
 
 use crate::drawn::Drawing;
 use crate::lists::{of_entries, of_groups};
-use crate::{edges, malformed, published};
+use crate::{builds, edges, exchanges, malformed, published, readings};
 use std::io::{self, Write};
 
+/// The drawn calls of the slave.
 pub const SEED: u64 = 20_011_201;
 pub const COUNT: u64 = 20_000;
 
-/// The last line has no line feed, and counts all the same.
-pub fn write(output: &mut impl Write) -> io::Result<()> {
-    let listed = of_groups(published::MANUAL)
+/// The drawn lines of the master's half, in this order.
+pub const MASTER_SEED: u64 = 20_020_301;
+pub const EXCHANGES: u64 = 10_000;
+pub const BUILDS: u64 = 1_200;
+pub const READINGS: u64 = 3_000;
+
+/// What the lists for the slave and for the master's half have, without what is given for it.
+fn listed() -> impl Iterator<Item = Vec<u8>> {
+    let slave = of_groups(published::MANUAL)
         .chain(of_entries(published::PUBLIC))
         .chain(of_entries(edges::LENT))
         .chain(of_groups(edges::FRAMES))
-        .chain(edges::pairs());
-    let texts = listed.map(|(_, line)| line).chain(edges::every_function());
-    for line in texts.map(String::into_bytes).chain(malformed::lines()) {
-        output.write_all(&line)?;
-        output.write_all(b"\n")?;
+        .chain(edges::pairs())
+        .map(|(_, line)| line)
+        .chain(edges::every_function());
+    let master = of_entries(builds::BUILDS)
+        .chain(builds::limits())
+        .chain(of_entries(readings::READINGS))
+        .chain(readings::misfits())
+        .chain(readings::exceptions())
+        .chain(readings::spare_bits())
+        .chain(readings::limits())
+        .chain(readings::orders())
+        .chain(of_groups(exchanges::EXCHANGES))
+        .chain(exchanges::outcomes())
+        .map(|(_, line)| line)
+        .chain(exchanges::published().into_iter().map(|(_, line)| line));
+    slave.chain(master).map(String::into_bytes)
+}
+
+/// The last line has no line feed, and counts all the same.
+pub fn write(output: &mut impl Write) -> io::Result<()> {
+    for line in listed().chain(malformed::lines()) {
+        write_line(&line, output)?;
     }
-    let (mut drawing, mut line) = (Drawing::new(SEED), Vec::new());
-    for left in (0..COUNT).rev() {
-        drawing.call(&mut line);
-        if left > 0 {
-            line.push(b'\n');
+    let mut line = Vec::new();
+    let mut drawing = Drawing::new(MASTER_SEED);
+    for place in 0..EXCHANGES + BUILDS + READINGS {
+        match place {
+            0..EXCHANGES => drawing.exchange(&mut line),
+            _ if place < EXCHANGES + BUILDS => drawing.build(&mut line),
+            _ => {
+                drawing.reading(&mut line);
+            }
         }
-        output.write_all(&line)?;
+        write_line(&line, output)?;
     }
-    Ok(())
+    let mut drawing = Drawing::new(SEED);
+    for _ in 1..COUNT {
+        drawing.call(&mut line);
+        write_line(&line, output)?;
+    }
+    drawing.call(&mut line);
+    output.write_all(&line)
+}
+
+fn write_line(line: &[u8], output: &mut impl Write) -> io::Result<()> {
+    output.write_all(line)?;
+    output.write_all(b"\n")
 }
 
 #[cfg(test)]
 mod tests {
     use super::*;
     use crate::calls::Calls;
+    use crate::cases::Told;
     use crate::drawn::{Damage, FUNCTIONS};
     use crate::slave::{Counting, Outcome, State};
     use crate::tally::Tally;
@@ -197,7 +237,11 @@ mod tests {
             let text = String::from_utf8_lossy(&line).into_owned();
             assert!(calls.read(&line).is_some(), "{text}");
             let outcome = calls.make(&mut Vec::new());
-            tally.count(&calls, outcome);
+            let told = Told {
+                outcome: Some(outcome),
+                ..Told::default()
+            };
+            tally.count(&calls, told);
             let shows = matches!(outcome, Outcome::Refused(_) | Outcome::Silent(11));
             assert!(damage.is_none() || shows, "{damage:?} {text}");
             let seen = Seen {

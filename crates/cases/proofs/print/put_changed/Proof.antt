@@ -8,10 +8,10 @@ use Rattle.cases.proofs.print.put_changed.Statement.{statement}
 use Rattle.cases.proofs.print.put_changed.Tie as tie
 
 abbrev Inv-loop : tie.InvT-loop
-Inv-loop before image output₀ words₀ i₀ t8 i-end output words i = length output ≡ length output₀
+Inv-loop before image output₀ words₀ i₀ i-end output words i = length output ≡ length output₀
 
 abbrev μ-loop : tie.MeasureT-loop
-μ-loop before image output₀ words₀ i₀ t8 i-end output words i = i-end - i
+μ-loop before image output₀ words₀ i₀ i-end output words i = i-end - i
 
 pub put-changed-spec : {M : Type 1} → statement M
 put-changed-spec =
@@ -22,9 +22,9 @@ put-changed-spec =
     (λ c. search needs)
     (λ c κs. search needs)
     (λ c. search needs)
-    (λ c. search needs)
-    (λ c. search needs)
-    (λ c. search needs)
     (λ c κs. search needs)
+    (λ c. search needs)
+    (λ c. search needs)
+    (λ c. search needs)
     (λ c. search needs)
     (λ c. search needs))
