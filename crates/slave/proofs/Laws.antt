@@ -16,12 +16,12 @@ use Rattle.areas.specs.Calls.{listEntries, listed}
 use Rattle.areas.proofs.Laws as areas-laws
 use Rattle.slave.specs.declared.Outcome.{Outcome}
 use Rattle.slave.specs.Laws as laws
-use Rattle.slave.specs.Numbers.{kindOf, refusalNumber, silenceNumber}
-use Rattle.slave.specs.Table.{table, FirstDecides}
+use Rattle.slave.specs.Numbers.{refusalNumber, silenceNumber}
 use Rattle.slave.specs.Answer.{Call, Answer, Answers}
 use Rattle.slave.proofs.Reasons.{refusalOf, refusal-back, silenceOf, silence-back}
 use Rattle.slave.proofs.Determined.{answers-determined}
 use Rattle.slave.proofs.Lengths.{answer-lengths}
+use Rattle.slave.proofs.Broken.{broken-alike}
 
 pub RespondDetermined : laws.RespondDetermined
 RespondDetermined = answers-determined
@@ -49,18 +49,12 @@ LentOrByValue station areas list stands frame image reply x y imageX replyX imag
     answerOf : Outcome → List ℕ → List ℕ → Answer
     answerOf outcome image reply = record { outcome = outcome; image = image; reply = reply }
 
-    -- what the lent call answers, the call by value may answer: of lists that are too long no line past line 3 is asked
+    -- what the lent call answers, the call by value may answer
     by-value : laws.StandsFor list areas → Answers (callOf (listed list)) (answerOf x imageX replyX)
     by-value (inl e) = rw e p
-    by-value (inr (listed-long, long)) = record { decided = too-long (p .decided); left = p .left }
-      where
-        too-long : FirstDecides (table station areas (length image) (length reply) frame) (kindOf x)
-            → FirstDecides (table station (listed list) (length image) (length reply) frame) (kindOf x)
-        too-long (inl own) = inl own
-        too-long (inr (own, inl words)) = inr (own, inl words)
-        too-long (inr (own, inr (words, inl (broken, kind)))) =
-            inr (own, inr (words, inl (λ kept. omega (arith, kept .at-most-sixteen), kind)))
-        too-long (inr (own, inr (words, inr (kept, later)))) = absurd (kept (λ rules. omega (arith, rules .at-most-sixteen)))
+    by-value (inr (listed-long, long)) =
+        broken-alike station areas (listed list) frame image reply x imageX replyX (λ rules. omega (arith, rules .at-most-sixteen))
+        (λ rules. omega (arith, rules .at-most-sixteen)) p
 
 pub RefusalsApart : laws.RefusalsApart
 RefusalsApart = back-apart refusalNumber refusalOf refusal-back

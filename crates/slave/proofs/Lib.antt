@@ -9,6 +9,7 @@ mod Acts
 mod Reasons
 mod Determined
 mod Lengths
+pub mod Broken
 mod Contracts
 pub mod Examples
 pub mod Laws

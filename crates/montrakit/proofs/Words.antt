@@ -1,0 +1,115 @@
+-- The words of a list of areas: three for each, and one list for its words.
+-- Assumes nothing.
+use mathlib.Core.Path.{_≡_, refl, sym, ap, subst, _∙_}
+use mathlib.Core.Logic.{_⊎_, _≢_, inl, inr}
+use mathlib.Core.List.{List, [], _∷_, _++_}
+use Prim.Native.Nat.{ℕ, zero, suc, _+_, _*_, _%_, _<_}
+use native.Mathlib.Numerals.{add-one}
+use native.Mathlib.Omega.{arith}
+use lib.ListN.{length, take, drop, getD, set}
+use lib.Seq.{drop-cons, take-add, take-suc-set}
+use Rattle.areas.specs.declared.Access.{Access}
+use Rattle.areas.specs.declared.Access.the-variants.{ReadOnly, ReadWrite}
+use Rattle.areas.specs.declared.Area.{Area}
+use Rattle.areas.specs.Holding.{areaAt}
+use Rattle.montrakit.specs.Meanings.{accessWord, MeansNothing, areaWords, OfNoList}
+
+pub words-length : (areas : List Area) → length (areaWords areas) ≡ length areas * 3
+unfolding areaWords
+words-length [] = refl
+words-length (area ∷ areas) = omega (arith, words-length areas)
+
+words-append : (a b : List Area) → areaWords (a ++ b) ≡ areaWords a ++ areaWords b
+unfolding areaWords
+words-append [] b = refl
+words-append (area ∷ a) b =
+    ap (λ (rest : List ℕ). area .first ∷ area .count ∷ accessWord (area .access) ∷ rest) (words-append a b)
+
+-- the third word of an area
+pub access-at : (areas : List Area) (i : ℕ) → i < length areas
+    → getD (areaWords areas) (i * 3 + 2) 0 ≡ accessWord (areaAt areas i .access)
+unfolding areaWords
+access-at [] i h = absurd (omega (arith, h))
+access-at (area ∷ areas) zero h = refl
+access-at (area ∷ areas) (suc i) h =
+    let further : suc i * 3 + 2 ≡ suc (suc (suc (i * 3 + 2))) = omega arith in
+    ap (λ (n : ℕ). getD (area .first ∷ area .count ∷ accessWord (area .access) ∷ areaWords areas) n 0) further
+    ∙ access-at areas i (omega (arith, h))
+
+-- ---- one area more
+
+-- three elements more
+take-three : (l : List ℕ) (n : ℕ) → n + 2 < length l
+    → take (n + 3) l ≡ take n l ++ (getD l n 0 ∷ getD l (n + 1) 0 ∷ getD l (n + 2) 0 ∷ [])
+take-three l n h =
+    let second : n + 1 ≡ suc n = omega arith in
+    let third : n + 2 ≡ suc (suc n) = omega arith in
+    rw (
+      second,
+      third,
+      take-add n 3 l,
+      drop-cons l n 0 (omega (arith, h)),
+      drop-cons l (suc n) 0 (omega (arith, h)),
+      drop-cons l (suc (suc n)) 0 (omega (arith, h)),
+    ) refl
+
+-- the entries up to i have the words up to 3 i; so have those with one more, made of the next three
+pub one-more : (words : List ℕ) (entries : List Area) (i : ℕ) (area : Area) → i < length entries → i * 3 + 2 < length words
+    → area .first ≡ getD words (i * 3) 0 → area .count ≡ getD words (i * 3 + 1) 0
+    → accessWord (area .access) ≡ getD words (i * 3 + 2) 0
+    → areaWords (take i entries) ≡ take (i * 3) words
+    → areaWords (take (i + 1) (set entries i area)) ≡ take ((i + 1) * 3) words
+unfolding areaWords
+one-more words entries i area inside more first count access so-far =
+    let next : (i + 1) * 3 ≡ i * 3 + 3 = omega arith in
+    ap (λ (n : ℕ). areaWords (take n (set entries i area))) (add-one i)
+    ∙ ap areaWords (take-suc-set entries i area inside)
+    ∙ words-append (take i entries) (area ∷ [])
+    ∙ rw (so-far, first, count, access, next) (sym (take-three words (i * 3) more))
+
+-- ---- words of no list
+
+-- their number is no multiple of three ..
+pub of-three : (words : List ℕ) → length words % 3 ≢ 0 → OfNoList words
+of-three words odd areas e = odd (ap (λ (l : List ℕ). length l % 3) (sym e) ∙ rw (words-length areas) (mul-mod (length areas)))
+  where
+    mul-mod : (n : ℕ) → n * 3 % 3 ≡ 0
+    mul-mod n = omega arith
+
+-- .. or an access word means nothing
+pub of-access : (words : List ℕ) (i : ℕ) → i * 3 + 2 < length words → MeansNothing accessWord (getD words (i * 3 + 2) 0)
+    → OfNoList words
+of-access words i h none areas e =
+    let long : i * 3 + 2 < length areas * 3 = omega (arith, h, ap length e, words-length areas) in
+    none (areaAt areas i .access)
+    (sym (access-at areas i (omega (arith, long))) ∙ ap (λ (l : List ℕ). getD l (i * 3 + 2) 0) e)
+
+-- ---- there is a list, or there is none
+
+access-or-none : (n : ℕ) → ((access : Access) × (accessWord access ≡ n)) ⊎ MeansNothing accessWord n
+access-or-none zero = inl (ReadOnly, refl)
+access-or-none (suc zero) = inl (ReadWrite, refl)
+access-or-none (suc (suc n)) = inr none
+  where
+    none : MeansNothing accessWord (suc (suc n))
+    none ReadOnly e = omega (arith, e)
+    none ReadWrite e = omega (arith, e)
+
+pub list-or-none : (words : List ℕ) → ((areas : List Area) × (areaWords areas ≡ words)) ⊎ OfNoList words
+unfolding areaWords
+list-or-none [] = inl ([], refl)
+list-or-none (a ∷ []) = inr (of-three (a ∷ []) (λ e. omega (arith, e)))
+list-or-none (a ∷ b ∷ []) = inr (of-three (a ∷ b ∷ []) (λ e. omega (arith, e)))
+list-or-none (first ∷ count ∷ n ∷ words) = with-rest (access-or-none n) (list-or-none words)
+  where
+    with-rest : ((access : Access) × (accessWord access ≡ n)) ⊎ MeansNothing accessWord n
+        → ((areas : List Area) × (areaWords areas ≡ words)) ⊎ OfNoList words
+        → ((areas : List Area) × (areaWords areas ≡ first ∷ count ∷ n ∷ words)) ⊎ OfNoList (first ∷ count ∷ n ∷ words)
+    with-rest (inr none) rest = inr (of-access (first ∷ count ∷ n ∷ words) 0 (omega arith) none)
+    with-rest (inl access) (inl (areas, e)) =
+        inl (record { first = first; count = count; access = access .0 } ∷ areas, rw (access .1, e) refl)
+    with-rest (inl access) (inr none) = inr (λ areas e. further areas e)
+      where
+        further : OfNoList (first ∷ count ∷ n ∷ words)
+        further [] e = omega (arith, ap length e)
+        further (area ∷ areas) e = none areas (ap (drop 3) e)

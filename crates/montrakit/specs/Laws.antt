@@ -1,0 +1,1 @@
+-- The laws of the face, each proved under its name in proofs/Laws.antt.

@@ -1,0 +1,8 @@
+pub mod Meanings
+pub mod Results
+pub mod Responding
+pub mod Mastering
+pub mod Laws
+pub mod Naming
+pub mod Listing
+pub mod Telling
