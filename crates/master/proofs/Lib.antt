@@ -1,5 +1,5 @@
 mod Numbers
-mod Lines
+pub mod Lines
 mod Body
 pub mod Framed
 pub mod SpareBits
@@ -12,5 +12,5 @@ pub mod Accepting
 mod Accepted
 mod Damaged
 pub mod Laws
-mod Examples
+pub mod Examples
 mod Contracts

@@ -15,11 +15,11 @@ use Rattle.slave.specs.declared.Outcome.{Outcome}
 use Rattle.slave.specs.Conditions.{BreaksARule}
 use Rattle.slave.specs.Answer as slave
 use Rattle.slave.proofs.Broken.{broken-alike}
-use Rattle.montrakit.specs.Meanings.{areaWords, OfNoList}
+use Rattle.montrakit.specs.Meanings.{areaWords}
 use Rattle.montrakit.specs.Results.{outcomeResult}
 use Rattle.montrakit.specs.Responding.{Settings, StandFor, Answered}
 use Rattle.montrakit.specs.Listing.{ListOf}
-use Rattle.montrakit.proofs.Words.{list-or-none}
+use Rattle.montrakit.proofs.Words.{Why, of-no-list, list-or-why}
 
 too-long : (areas : List Area) (words : ℕ) → mostAreas < length areas → BreaksARule areas words
 too-long areas words long rules = omega (arith, rules .at-most-sixteen)
@@ -31,9 +31,9 @@ module _ (station : Station) (words frame image reply : List ℕ) (list : AreaLi
 
   meant-list : ListOf words list → With (listed list) → (areas : List Area) × StandFor words (length image) areas × With areas
   meant-list (inl e) answers = (listed list, inl e, answers)
-  meant-list (inr (long, each)) answers = one-of-them (list-or-none words)
+  meant-list (inr (long, each)) answers = one-of-them (list-or-why words)
     where
-      one-of-them : ((areas : List Area) × (areaWords areas ≡ words)) ⊎ OfNoList words
+      one-of-them : ((areas : List Area) × (areaWords areas ≡ words)) ⊎ Why words
           → (areas : List Area) × StandFor words (length image) areas × With areas
       one-of-them (inl (areas, e)) = (
         areas,
@@ -41,7 +41,7 @@ module _ (station : Station) (words frame image reply : List ℕ) (list : AreaLi
         broken-alike station (listed list) areas frame image reply outcome imageAfter replyAfter
             (too-long (listed list) (length image) long) (too-long areas (length image) (each areas e)) answers,
       )
-      one-of-them (inr none) = (listed list, inr (none, too-long (listed list) (length image) long), answers)
+      one-of-them (inr why) = (listed list, inr (of-no-list words why, too-long (listed list) (length image) long), answers)
 
   pub answered : (own counting state : ℕ) → Settings own counting state station → ListOf words list → With (listed list) → (told : ℕ)
       → told ≡ outcomeResult outcome → Answered own counting state words frame image reply told imageAfter replyAfter

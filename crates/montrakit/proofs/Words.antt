@@ -67,16 +67,15 @@ one-more words entries i area inside more first count access so-far =
     ∙ words-append (take i entries) (area ∷ [])
     ∙ rw (so-far, first, count, access, next) (sym (take-three words (i * 3) more))
 
--- ---- words of no list
+-- ---- words of no list: their number is no multiple of three, or an access word means nothing
 
--- their number is no multiple of three ..
 pub of-three : (words : List ℕ) → length words % 3 ≢ 0 → OfNoList words
-of-three words odd areas e = odd (ap (λ (l : List ℕ). length l % 3) (sym e) ∙ rw (words-length areas) (mul-mod (length areas)))
+of-three words odd areas e =
+    odd (ap (λ (l : List ℕ). length l % 3) (sym e) ∙ rw (words-length areas) (whole (length areas)))
   where
-    mul-mod : (n : ℕ) → n * 3 % 3 ≡ 0
-    mul-mod n = omega arith
+    whole : (n : ℕ) → n * 3 % 3 ≡ 0
+    whole n = omega arith
 
--- .. or an access word means nothing
 pub of-access : (words : List ℕ) (i : ℕ) → i * 3 + 2 < length words → MeansNothing accessWord (getD words (i * 3 + 2) 0)
     → OfNoList words
 of-access words i h none areas e =
@@ -84,7 +83,15 @@ of-access words i h none areas e =
     none (areaAt areas i .access)
     (sym (access-at areas i (omega (arith, long))) ∙ ap (λ (l : List ℕ). getD l (i * 3 + 2) 0) e)
 
--- ---- there is a list, or there is none
+abbrev pub Why : List ℕ → Type 0
+Why words =
+    (length words % 3 ≢ 0) ⊎ ((i : ℕ) × (i * 3 + 2 < length words) × MeansNothing accessWord (getD words (i * 3 + 2) 0))
+
+pub of-no-list : (words : List ℕ) → Why words → OfNoList words
+of-no-list words (inl odd) = of-three words odd
+of-no-list words (inr (i, inside, none)) = of-access words i inside none
+
+-- ---- there is a list, or a reason why there is none
 
 access-or-none : (n : ℕ) → ((access : Access) × (accessWord access ≡ n)) ⊎ MeansNothing accessWord n
 access-or-none zero = inl (ReadOnly, refl)
@@ -95,21 +102,45 @@ access-or-none (suc (suc n)) = inr none
     none ReadOnly e = omega (arith, e)
     none ReadWrite e = omega (arith, e)
 
-pub list-or-none : (words : List ℕ) → ((areas : List Area) × (areaWords areas ≡ words)) ⊎ OfNoList words
+abbrev OfSome : List ℕ → Type 0
+OfSome words = (areas : List Area) × (areaWords areas ≡ words)
+
+-- behind three more words the reason stands three places on
+why-further : (a b c : ℕ) (words : List ℕ) → Why words → Why (a ∷ b ∷ c ∷ words)
+why-further a b c words (inl odd) = inl (λ e. odd (omega (arith, e)))
+why-further a b c words (inr (i, inside, none)) =
+    let place : suc i * 3 + 2 ≡ suc (suc (suc (i * 3 + 2))) = omega arith in
+    inr (suc i, omega (arith, inside), rw place none)
+
+pub list-or-why : (words : List ℕ) → OfSome words ⊎ Why words
 unfolding areaWords
-list-or-none [] = inl ([], refl)
-list-or-none (a ∷ []) = inr (of-three (a ∷ []) (λ e. omega (arith, e)))
-list-or-none (a ∷ b ∷ []) = inr (of-three (a ∷ b ∷ []) (λ e. omega (arith, e)))
-list-or-none (first ∷ count ∷ n ∷ words) = with-rest (access-or-none n) (list-or-none words)
+list-or-why [] = inl ([], refl)
+list-or-why (a ∷ []) = inr (inl (λ e. omega (arith, e)))
+list-or-why (a ∷ b ∷ []) = inr (inl (λ e. omega (arith, e)))
+list-or-why (first ∷ count ∷ n ∷ words) = with-rest (access-or-none n) (list-or-why words)
   where
-    with-rest : ((access : Access) × (accessWord access ≡ n)) ⊎ MeansNothing accessWord n
-        → ((areas : List Area) × (areaWords areas ≡ words)) ⊎ OfNoList words
-        → ((areas : List Area) × (areaWords areas ≡ first ∷ count ∷ n ∷ words)) ⊎ OfNoList (first ∷ count ∷ n ∷ words)
-    with-rest (inr none) rest = inr (of-access (first ∷ count ∷ n ∷ words) 0 (omega arith) none)
+    with-rest : ((access : Access) × (accessWord access ≡ n)) ⊎ MeansNothing accessWord n → OfSome words ⊎ Why words
+        → OfSome (first ∷ count ∷ n ∷ words) ⊎ Why (first ∷ count ∷ n ∷ words)
+    with-rest (inr none) rest = inr (inr (0, omega arith, none))
     with-rest (inl access) (inl (areas, e)) =
         inl (record { first = first; count = count; access = access .0 } ∷ areas, rw (access .1, e) refl)
-    with-rest (inl access) (inr none) = inr (λ areas e. further areas e)
-      where
-        further : OfNoList (first ∷ count ∷ n ∷ words)
-        further [] e = omega (arith, ap length e)
-        further (area ∷ areas) e = none areas (ap (drop 3) e)
+    with-rest (inl access) (inr why) = inr (why-further first count n words why)
+
+-- ---- and no two lists
+
+access-apart : (a b : Access) → accessWord a ≡ accessWord b → a ≡ b
+access-apart ReadOnly ReadOnly e = refl
+access-apart ReadOnly ReadWrite e = absurd (omega (arith, e))
+access-apart ReadWrite ReadOnly e = absurd (omega (arith, e))
+access-apart ReadWrite ReadWrite e = refl
+
+pub one-list : (a b : List Area) → areaWords a ≡ areaWords b → a ≡ b
+unfolding areaWords
+one-list [] [] e = refl
+one-list [] (b ∷ bs) e = absurd (omega (arith, ap length e))
+one-list (a ∷ as′) [] e = absurd (omega (arith, ap length e))
+one-list (a ∷ as′) (b ∷ bs) e =
+    let word : (n : ℕ) → getD (areaWords (a ∷ as′)) n 0 ≡ getD (areaWords (b ∷ bs)) n 0 = λ n. ap (λ (l : List ℕ). getD l n 0) e in
+    let access = access-apart (a .access) (b .access) (word 2) in
+    let area : a ≡ b = λ i. record { first = word 0 i; count = word 1 i; access = access i } in
+    cc (area, one-list as′ bs (ap (drop 3) e))

@@ -3,6 +3,7 @@ pub mod Results
 pub mod Responding
 pub mod Mastering
 pub mod Laws
+pub mod Witnesses
 pub mod Naming
 pub mod Listing
 pub mod Telling

@@ -1,6 +1,6 @@
 -- What is answered, as one number: kind × 65,536 + number.
 -- Assumes nothing.
-use Prim.Native.Nat.{ℕ, _+_, _*_}
+use Prim.Native.Nat.{ℕ, _+_, _*_, _/_, _%_}
 use Rattle.frames.specs.Exceptions.{codeNumber}
 use Rattle.slave.specs.declared.Outcome.{Outcome}
 use Rattle.slave.specs.declared.Outcome.the-variants as Outcome
@@ -14,6 +14,13 @@ use Rattle.master.specs.Refusals as master
 
 abbrev pub result : ℕ → ℕ → ℕ
 result kind number = kind * 65536 + number
+
+-- and back: the kind and the number that a result has
+abbrev pub kindIn : ℕ → ℕ
+kindIn told = told / 65536
+
+abbrev pub numberIn : ℕ → ℕ
+numberIn told = told % 65536
 
 -- ---- the kinds
 
