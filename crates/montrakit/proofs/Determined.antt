@@ -1,7 +1,7 @@
 -- One call has one answer.
 -- Assumes nothing.
 use mathlib.Core.Path.{_≡_, refl, sym, ap, subst, _∙_}
-use mathlib.Core.Logic.{_⊎_, inl, inr}
+use mathlib.Core.Logic.{inl, inr}
 use mathlib.Core.List.{List}
 use Prim.Native.Nat.{ℕ}
 use native.Mathlib.Omega.{arith}
@@ -20,13 +20,12 @@ use Rattle.slave.proofs.Broken.{broken-alike}
 use Rattle.master.specs.declared.Function.{Function}
 use Rattle.master.specs.declared.Built.{Built}
 use Rattle.master.specs.declared.Reading.{Reading}
-use Rattle.master.specs.Requests.{functionNumber}
 use Rattle.master.proofs.Lines.{refused-determined, refused-or-not}
 use Rattle.master.proofs.Laws as master-laws
 use Rattle.montrakit.specs.Meanings.{countingByte, stateByte}
 use Rattle.montrakit.specs.Results.{result, badArgument, outcomeResult, builtResult, readingResult}
 use Rattle.montrakit.specs.Responding.{badArguments, Bad, Settings, StandFor, Answered, Respond}
-use Rattle.montrakit.specs.Mastering.{requestOf, OfNumber, Build, Read}
+use Rattle.montrakit.specs.Mastering.{requestOf, OfNumber}
 use Rattle.montrakit.specs.Laws as laws
 use Rattle.montrakit.proofs.Words.{one-list}
 

@@ -20,7 +20,7 @@ use Rattle.master.specs.declared.Reading.the-variants as Reading
 use Rattle.master.specs.Building as building
 use Rattle.master.specs.Reading as reading
 use Rattle.master.proofs.Laws as master-laws
-use Rattle.montrakit.specs.Telling.{mostNumber, bytesBuilt, bytesRead}
+use Rattle.montrakit.specs.Results.{mostNumber, bytesBuilt, bytesRead}
 
 pub outcome-fits : (station : Station) (areas : List Area) (frame image reply : List ℕ) (outcome : Outcome)
     (imageAfter replyAfter : List ℕ) → slave.Respond station areas frame image reply outcome imageAfter replyAfter

@@ -2,7 +2,7 @@
 -- Assumes nothing.
 use mathlib.Core.Path.{_≡_, refl, sym, ap, _∙_}
 use mathlib.Core.Logic.{_≢_}
-use Prim.Native.Nat.{ℕ, _≤_, _<_}
+use Prim.Native.Nat.{ℕ, _≤_}
 use native.Mathlib.Omega.{arith}
 use Rattle.frames.specs.declared.Code.{Code}
 use Rattle.frames.specs.declared.Code.the-variants as Code
@@ -24,8 +24,7 @@ use Rattle.master.specs.declared.Reading.{Reading}
 use Rattle.master.specs.declared.Reading.the-variants as Reading
 use Rattle.master.specs.Refusals as master
 use Rattle.master.proofs.Laws as master-laws
-use Rattle.montrakit.specs.Results.{result, kindIn, numberIn, outcomeResult, builtResult, readingResult}
-use Rattle.montrakit.specs.Telling.{mostNumber, bytesBuilt, bytesRead}
+use Rattle.montrakit.specs.Results.{result, kindIn, numberIn, mostNumber, outcomeResult, builtResult, readingResult, bytesBuilt, bytesRead}
 
 pub kind-and-number : (kind number : ℕ) → number ≤ mostNumber
     → (kindIn (result kind number) ≡ kind) × (numberIn (result kind number) ≡ number)

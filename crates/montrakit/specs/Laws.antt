@@ -17,10 +17,9 @@ use Rattle.master.specs.declared.Reading.{Reading}
 use Rattle.master.specs.Refusals.{Line, RefusedBy}
 use Rattle.demands.specs.Terms.{KeptBeyond}
 use Rattle.montrakit.specs.Meanings.{accessWord, MeansNothing, areaWords, OfNoList}
-use Rattle.montrakit.specs.Results.{result, kindIn, numberIn, refused, silent, exception, reply, badArgument, outcomeResult, builtResult, readingResult}
+use Rattle.montrakit.specs.Results.{result, kindIn, numberIn, mostNumber, refused, silent, exception, reply, badArgument, outcomeResult, builtResult, readingResult, bytesBuilt, bytesRead}
 use Rattle.montrakit.specs.Responding.{Respond}
 use Rattle.montrakit.specs.Mastering.{Build, Read}
-use Rattle.montrakit.specs.Telling.{mostNumber, bytesBuilt, bytesRead}
 
 -- ---- any two answers that a promise allows for one call coincide: what is told, and what is left in the lent buffers
 

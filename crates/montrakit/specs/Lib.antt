@@ -6,4 +6,3 @@ pub mod Laws
 pub mod Witnesses
 pub mod Naming
 pub mod Listing
-pub mod Telling

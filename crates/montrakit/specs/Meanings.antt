@@ -1,7 +1,6 @@
 -- What the numbers stand for that a caller hands over: a byte for a counting and for a state, three words for an area. (The number
 -- of a function is `functionNumber` of master, `Requests`.)
 -- Assumes nothing.
-use mathlib.Core.Path.{_≡_}
 use mathlib.Core.Logic.{_≢_}
 use mathlib.Core.List.{List, [], _∷_}
 use Prim.Native.Nat.{ℕ}

@@ -22,6 +22,10 @@ kindIn told = told / 65536
 abbrev pub numberIn : ℕ → ℕ
 numberIn told = told % 65536
 
+-- the largest number that goes beside a kind
+abbrev pub mostNumber : ℕ
+mostNumber = 65535
+
 -- ---- the kinds
 
 abbrev pub refused : ℕ
@@ -72,3 +76,14 @@ readingResult (Reading.Exception code) = result exception (codeNumber code)
 -- an unknown function number is refusal 70
 abbrev pub unknownFunction : ℕ
 unknownFunction = result refused (master.refusalNumber Refusal.Request)
+
+-- how many bytes these two speak of (those of an outcome: `toSend` of slave, `Answer`)
+abbrev pub bytesBuilt : Built → ℕ
+bytesBuilt (Built.Refused why) = 0
+bytesBuilt (Built.Frame n) = n
+
+abbrev pub bytesRead : Reading → ℕ
+bytesRead (Reading.Refused why) = 0
+bytesRead (Reading.Data n) = n
+bytesRead Reading.Written = 0
+bytesRead (Reading.Exception code) = 0

@@ -5,6 +5,7 @@ mod listing;
 mod naming;
 mod telling;
 
+use master::Function;
 use master::Request;
 use naming::CountingNamed;
 use naming::FunctionNamed;
@@ -13,7 +14,7 @@ use slave::Station;
 ghost use mathlib.Core.Path.{_≡_};
 ghost use Rattle.check_word.specs.CheckWord.{checkWord};
 ghost use Rattle.montrakit.specs.Responding.{Respond};
-ghost use Rattle.montrakit.specs.Mastering.{Build, Read};
+ghost use Rattle.montrakit.specs.Mastering.{requestOf, Build, Read};
 
 // The check word of any bytes.
 #[no_mangle]
@@ -70,12 +71,7 @@ pub extern "C" fn montrakit_build(
     let FunctionNamed::Names(function) = named else {
         return telling::unknown_function();
     };
-    let request = Request {
-        station,
-        function,
-        start,
-        operand: value,
-    };
+    let request = request_of(station, function, start, value);
     let built = master::build(request, data, frame);
     telling::built(built)
 }
@@ -96,12 +92,19 @@ pub extern "C" fn montrakit_read(
     let FunctionNamed::Names(function) = named else {
         return telling::unknown_function();
     };
-    let request = Request {
+    let request = request_of(station, function, start, value);
+    let reading = master::read_reply(request, reply, out);
+    telling::reading(reading)
+}
+
+// The fields of a request, as the master takes them.
+fn request_of(station: u8, function: Function, start: u16, value: u16) -> Request
+    ensures { λ r. ⌜ r ≡ requestOf station function start value ⌝ }
+{
+    Request {
         station,
         function,
         start,
         operand: value,
-    };
-    let reading = master::read_reply(request, reply, out);
-    telling::reading(reading)
+    }
 }

@@ -5,8 +5,7 @@ use slave::Outcome;
 ghost use mathlib.Core.Path.{_≡_};
 ghost use Prim.Native.Nat.{_≤_};
 ghost use Rattle.slave.specs.Answer.{toSend};
-ghost use Rattle.montrakit.specs.Results.{result, badArgument, unknownFunction, outcomeResult, builtResult, readingResult};
-ghost use Rattle.montrakit.specs.Telling.{mostNumber, bytesBuilt, bytesRead};
+ghost use Rattle.montrakit.specs.Results.{result, mostNumber, badArgument, outcomeResult, builtResult, readingResult, unknownFunction, bytesBuilt, bytesRead};
 
 // The kinds.
 const REFUSED: u32 = 0;

@@ -24,6 +24,9 @@ returns c =
     let none = rw (c .before .enum-told .given .1) at (c .before .before .before .function .ensures) in
     inl (none, c .unknown-function .ensures, refl)
 
+request-of-requires : tie.Need-request-of-requires
+request-of-requires c κs = search needs
+
 build-requires : tie.Need-build-requires
 build-requires c κs = search needs
 
@@ -37,10 +40,11 @@ same-length c = search needs
 
 returns-2 : tie.Need-returns-2
 returns-2 c =
-    let build = c .before .before .before in
-    let named = build .before .before .before in
+    let called = c .before .before .before in
+    let request = called .before .before in
+    let named = request .before .before in
     let number = rw (named .named .given .1) at (named .before .before .function .ensures) in
-    inr (_, number, (build .build .result, build .build .ensures, c .built .ensures))
+    inr (_, number, (called .build .result, rw (request .request-of .ensures) at (called .build .ensures), c .built .ensures))
 
 pub montrakit-build-spec : {M : Type 1} → statement M
 montrakit-build-spec =
@@ -51,6 +55,7 @@ montrakit-build-spec =
     enum-told
     unknown-function-requires
     returns
+    request-of-requires
     build-requires
     built-requires
     same-length

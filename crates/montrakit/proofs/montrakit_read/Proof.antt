@@ -27,25 +27,29 @@ returns c =
     let none = rw (c .before .enum-told .given .1) at (c .before .before .before .function .ensures) in
     inl (none, c .unknown-function .ensures, refl)
 
+request-of-requires : tie.Need-request-of-requires
+request-of-requires c κs = search needs
+
 read-reply-requires : tie.Need-read-reply-requires
 read-reply-requires c κs = search needs
 
 reading-requires : tie.Need-reading-requires
 reading-requires c κs =
-    let read = c .before .before in
-    let start = read .before .before .before .before .before .before .before in
+    let called = c .before .before in
+    let start = called .before .before .before .before .before .before .before .before in
     let small : byte (start .before .args .reply .now) 2 < 256 = omega (arith, start .shared-slice-known .given 2) in
-    reading-fits _ _ _ (read .read-reply .result) _ small (read .read-reply .ensures)
+    reading-fits _ _ _ (called .read-reply .result) _ small (called .read-reply .ensures)
 
 same-length : tie.Need-same-length
 same-length c = search needs
 
 returns-2 : tie.Need-returns-2
 returns-2 c =
-    let read = c .before .before .before in
-    let named = read .before .before .before in
+    let called = c .before .before .before in
+    let request = called .before .before in
+    let named = request .before .before in
     let number = rw (named .named .given .1) at (named .before .before .function .ensures) in
-    inr (_, number, (read .read-reply .result, read .read-reply .ensures, c .reading .ensures))
+    inr (_, number, (called .read-reply .result, rw (request .request-of .ensures) at (called .read-reply .ensures), c .reading .ensures))
 
 pub montrakit-read-spec : {M : Type 1} → statement M
 montrakit-read-spec =
@@ -56,6 +60,7 @@ montrakit-read-spec =
     enum-told
     unknown-function-requires
     returns
+    request-of-requires
     read-reply-requires
     reading-requires
     same-length

@@ -91,7 +91,7 @@ pub record Gap : Type 0 where
         (PROOFS, "pub Ends : laws.Ends\npub Even : laws.Even\n"),
         (
             CODE,
-            "pub const LIMIT: u16 = 9;\npub fn go() {\n    step();\n}\n",
+            "pub const LIMIT: u16 = 9;\npub extern \"C\" fn go() {\n    step();\n}\n",
         ),
         ("crates/alpha/must-fail/never_ends.edit", ""),
         ("crates/alpha/must-fail/odd.edit", ""),

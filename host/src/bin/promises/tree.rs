@@ -24,7 +24,15 @@ pub struct Tree {
     files: HashMap<PathBuf, Option<Declared>>,
 }
 
-const MODIFIERS: [&str; 5] = ["abbrev", "unfoldable", "opaque", "pub", "pub(crate)"];
+const MODIFIERS: [&str; 7] = [
+    "abbrev",
+    "unfoldable",
+    "opaque",
+    "pub",
+    "pub(crate)",
+    "extern",
+    "\"C\"",
+];
 
 /// The words of a line from its name on, without modifiers.
 fn from_name(line: &str) -> Vec<&str> {
