@@ -38,3 +38,7 @@ compile() {
     quietly "$name" "${CC:-cc}" -std=c99 -Wall -Wextra -pedantic -Werror -O2 -I host/include -o "target/linked/$name" \
         "host/c/$name.c" "$@" "$library"
 }
+
+compile_stand() {
+    compile stand host/c/line.c host/c/station.c host/c/telling.c
+}
