@@ -95,7 +95,7 @@ pub record Gap : Type 0 where
         ),
         ("crates/alpha/must-fail/never_ends.edit", ""),
         ("crates/alpha/must-fail/odd.edit", ""),
-        ("crates/beta/must-fail/twice.edit", ""),
+        ("crates/beta/must-fail/more/twice.edit", ""),
         ("crates/beta/specs/Terms.antt", "pub length : ℕ\n"),
     ];
 
