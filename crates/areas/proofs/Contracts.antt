@@ -1,6 +1,6 @@
--- The laws on answers, of `survey`'s contract as the source has it: what it ensures is `Promised`, and it requires nothing. `a` are
--- the arguments: `now (a .0)` is the list, `a .1 .0` the image's number of words, `a .1 .1 .0` the run; `r` is the result, `s` are the
--- parameters as the call leaves them.
+-- The laws on answers, of the contracts as the source has them: what `survey` ensures is `Promised`, and it requires nothing; of
+-- `survey_words` `Post` is what it ensures, `Pre` what it requires. `a` are the arguments: `now (a .0)` is the list, `a .1 .0` the
+-- image's number of words, `a .1 .1 .0` the run; `r` is the result, `s` are the parameters as the call leaves them.
 -- Assumes nothing.
 use mathlib.Core.Path.{_≡_, refl}
 use Prim.Native.Nat.{_<_}
@@ -21,6 +21,7 @@ use Rattle.areas.specs.Rules.{mostAreas}
 use Rattle.areas.specs.Calls.{Survey}
 use Rattle.areas.proofs.Laws as laws
 use Rattle.areas.proofs.survey as survey
+use Rattle.areas.proofs.survey_words.Reads as survey-words
 
 abbrev pub Promised : (κs : _) → Args survey.signature κs → Finding → Type 0
 Promised κs a = Survey (now (a .0)) (a .1 .0) (a .1 .1 .0)
@@ -41,3 +42,11 @@ survey-determined κs a = laws.SurveyDetermined (now (a .0)) (a .1 .0) (a .1 .1 
 survey-over-sixteen : (κs : _) (a : Args survey.signature κs) (r : Finding) → mostAreas < length (now (a .0)) → Promised κs a r
     → r ≡ BreaksARule
 survey-over-sixteen κs a = laws.OverSixteen (now (a .0)) (a .1 .0) (a .1 .1 .0)
+
+-- ---- the same of a list as words
+
+survey-words-takes : (κs : _) (a : _) → survey-words.Pre κs a
+survey-words-takes κs a = tt
+
+survey-words-determined : (κs : _) (a : _) (x y : Finding) (s t : _) → survey-words.Post κs a x s → survey-words.Post κs a y t → x ≡ y
+survey-words-determined κs a x y s t = laws.SurveyWordsDetermined (now (a .0)) (a .1 .0) (a .1 .1 .0) x y

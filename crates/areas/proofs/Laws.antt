@@ -18,6 +18,7 @@ use Rattle.areas.proofs.Accesses.{not-both}
 use Rattle.areas.proofs.Across.{hole, no-earlier, no-hole}
 use Rattle.areas.proofs.Chain.{in-order-ascend, in-order-apart, rules-in-order}
 use Rattle.areas.proofs.Deciding.{decAddressable, decRulesKept}
+use Rattle.areas.proofs.Words.{stands}
 use Rattle.areas.proofs.Listed.{listed-length}
 use Rattle.areas.proofs.Judging.{judged-determined, judged-exists, each-read-write, judged-map, some-area-map}
 
@@ -139,3 +140,13 @@ ListedBySome areas few =
       omega (arith, length-append areas (replicate room emptyArea), length-replicate room emptyArea),
       take-append-seam areas (replicate room emptyArea),
     )
+
+-- ---- a list as words
+
+pub WordsStandFor : laws.WordsStandFor
+WordsStandFor = stands
+
+pub SurveyWordsDetermined : laws.SurveyWordsDetermined
+SurveyWordsDetermined areaWords words run x y p q =
+    let (areas, stand) = stands areaWords words in
+    SurveyDetermined areas words run x y (p areas stand) (q areas stand)

@@ -1,5 +1,6 @@
 mod Accesses
 pub mod Listed
+pub mod Words
 pub mod Chain
 mod Across
 pub mod Deciding

@@ -18,6 +18,7 @@ use Rattle.areas.specs.Holding.{Holds, endOf, areaAt, SomeArea, EachArea
 use Rattle.areas.specs.Rules.{mostAreas, AtMostSixteen, NoneEmpty, EndInside, RulesKept, Touch}
 use Rattle.areas.specs.Verdicts.{EachWord, SomeWordInNoArea, Judged}
 use Rattle.areas.specs.Calls.{Survey, listEntries, listed}
+use Rattle.areas.specs.Words.{StandFor, SurveyWords}
 
 -- ---- a list that keeps the rules
 
@@ -114,3 +115,13 @@ ListedTooLong = (list : AreaList) → length (list .entries) ≡ listEntries →
 abbrev pub ListedBySome : Type 0
 ListedBySome = (areas : List Area) → AtMostSixteen areas
     → (list : AreaList) × (length (list .entries) ≡ listEntries) × (listed list ≡ areas)
+
+-- ---- a list as words
+
+-- words stand for some list ..
+abbrev pub WordsStandFor : Type 0
+WordsStandFor = (areaWords : List ℕ) (words : ℕ) → (areas : List Area) × StandFor areaWords words areas
+
+-- .. and there is one finding on them: the promise determines its answer
+abbrev pub SurveyWordsDetermined : Type 0
+SurveyWordsDetermined = (areaWords : List ℕ) (words : ℕ) (run : Run) → Determined (SurveyWords areaWords words run)

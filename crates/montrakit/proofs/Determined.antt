@@ -8,6 +8,7 @@ use native.Mathlib.Omega.{arith}
 use lib.ListN.{length}
 use Rattle.promise.specs.Promise.{Determined}
 use Rattle.areas.specs.declared.Area.{Area}
+use Rattle.areas.specs.Words.{StandFor}
 use Rattle.slave.specs.declared.Counting.{Counting}
 use Rattle.slave.specs.declared.Counting.the-variants.{ModBus, JBus}
 use Rattle.slave.specs.declared.State.{State}
@@ -24,10 +25,10 @@ use Rattle.master.proofs.Lines.{refused-determined, refused-or-not}
 use Rattle.master.proofs.Laws as master-laws
 use Rattle.montrakit.specs.Meanings.{countingByte, stateByte}
 use Rattle.montrakit.specs.Results.{result, badArgument, outcomeResult, builtResult, readingResult}
-use Rattle.montrakit.specs.Responding.{badArguments, Bad, Settings, StandFor, Answered, Respond}
+use Rattle.montrakit.specs.Responding.{badArguments, Bad, Settings, Answered, Respond}
 use Rattle.montrakit.specs.Mastering.{requestOf, OfNumber}
 use Rattle.montrakit.specs.Laws as laws
-use Rattle.montrakit.proofs.Words.{one-list}
+use Rattle.areas.proofs.Words.{one-list}
 
 -- ---- the settings
 

@@ -16,12 +16,12 @@ use Rattle.master.specs.Refusals.{RefusedBy, FieldsRefused}
 use Rattle.master.specs.Reading.{ToldBy}
 use Rattle.master.proofs.Laws as master-laws
 use Rattle.demands.specs.Terms.{KeptBeyond}
-use Rattle.montrakit.specs.Meanings.{areaWords, OfNoList}
+use Rattle.areas.specs.Words.{areaWords, OfNoList, StandFor}
 use Rattle.montrakit.specs.Results.{result, kindIn, numberIn, mostNumber, refused, silent, exception, reply, badArgument, readingResult}
-use Rattle.montrakit.specs.Responding.{badArguments, Bad, StandFor, Respond}
+use Rattle.montrakit.specs.Responding.{badArguments, Bad, Respond}
 use Rattle.montrakit.specs.Mastering.{requestOf}
 use Rattle.montrakit.specs.Laws as laws
-use Rattle.montrakit.proofs.Words.{Why, of-no-list, list-or-why, one-list}
+use Rattle.areas.proofs.Words.{Why, of-no-list, list-or-why, one-list}
 use Rattle.montrakit.proofs.Results.{kind-and-number, outcomes-apart, built-apart, readings-apart}
 use Rattle.montrakit.proofs.Determined.{respond-determined, build-determined, read-determined}
 use Rattle.montrakit.proofs.Left.{image-kept, buffer-kept, behind-an-exception, behind-a-reply, damage-told, broken-told}

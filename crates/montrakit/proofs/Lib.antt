@@ -1,6 +1,4 @@
-mod Words
 mod Fitting
-mod Answered
 mod Results
 mod Determined
 mod Left

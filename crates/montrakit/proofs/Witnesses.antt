@@ -28,12 +28,13 @@ use Rattle.master.proofs.Examples as master
 use Rattle.demands.specs.Bench.{image, room, stationWith, two-words}
 use Rattle.demands.specs.Witnesses.{descending}
 use Rattle.demands.proofs.Witnesses as demands
-use Rattle.montrakit.specs.Meanings.{countingByte, stateByte, accessWord, MeansNothing, areaWords, OfNoList}
+use Rattle.areas.specs.Words.{accessWord, MeansNothing, areaWords, OfNoList}
+use Rattle.montrakit.specs.Meanings.{countingByte, stateByte}
 use Rattle.montrakit.specs.Results.{result, badArgument, outcomeResult}
 use Rattle.montrakit.specs.Responding.{badArguments, Respond}
 use Rattle.montrakit.specs.Witnesses as witnesses
 use Rattle.montrakit.specs.Witnesses.{benchWords}
-use Rattle.montrakit.proofs.Words.{of-three, of-access}
+use Rattle.areas.proofs.Words.{of-three, of-access}
 
 no-counting-2 : MeansNothing countingByte 2
 no-counting-2 ModBus e = omega (arith, e)

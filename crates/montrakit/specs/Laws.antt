@@ -8,6 +8,7 @@ use lib.ListN.{length, getD}
 use Rattle.promise.specs.Promise.{Determined}
 use Rattle.check_word.specs.Line.{Damaged}
 use Rattle.areas.specs.declared.Area.{Area}
+use Rattle.areas.specs.Words.{accessWord, MeansNothing, areaWords, OfNoList}
 use Rattle.frames.specs.Exceptions.{exceptionLength}
 use Rattle.slave.specs.declared.Outcome.{Outcome}
 use Rattle.slave.specs.Conditions.{mostImageWords}
@@ -16,7 +17,6 @@ use Rattle.master.specs.declared.Built.{Built}
 use Rattle.master.specs.declared.Reading.{Reading}
 use Rattle.master.specs.Refusals.{Line, RefusedBy}
 use Rattle.demands.specs.Terms.{KeptBeyond}
-use Rattle.montrakit.specs.Meanings.{accessWord, MeansNothing, areaWords, OfNoList}
 use Rattle.montrakit.specs.Results.{result, kindIn, numberIn, mostNumber, refused, silent, exception, reply, badArgument, outcomeResult, builtResult, readingResult, bytesBuilt, bytesRead}
 use Rattle.montrakit.specs.Responding.{Respond}
 use Rattle.montrakit.specs.Mastering.{Build, Read}

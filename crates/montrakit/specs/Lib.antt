@@ -5,4 +5,3 @@ pub mod Mastering
 pub mod Laws
 pub mod Witnesses
 pub mod Naming
-pub mod Listing

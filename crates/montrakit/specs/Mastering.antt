@@ -11,7 +11,7 @@ use Rattle.master.specs.declared.Reading.{Reading}
 use Rattle.master.specs.Requests.{functionNumber}
 use Rattle.master.specs.Building as building
 use Rattle.master.specs.Reading as reading
-use Rattle.montrakit.specs.Meanings.{MeansNothing}
+use Rattle.areas.specs.Words.{MeansNothing}
 use Rattle.montrakit.specs.Results.{builtResult, readingResult, unknownFunction}
 
 -- the fields of a request; `value` is the quantity, for 05 the bit value and for 06 the word

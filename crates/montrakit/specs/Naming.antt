@@ -2,16 +2,15 @@
 -- Assumes nothing.
 use mathlib.Core.Path.{_≡_}
 use Prim.Native.Nat.{ℕ}
+use Rattle.areas.specs.Words.{MeansNothing}
 use Rattle.master.specs.Requests.{functionNumber}
 use Rattle.montrakit.specs.declared.naming.CountingNamed.{CountingNamed}
 use Rattle.montrakit.specs.declared.naming.CountingNamed.the-variants as Counting
 use Rattle.montrakit.specs.declared.naming.StateNamed.{StateNamed}
 use Rattle.montrakit.specs.declared.naming.StateNamed.the-variants as State
-use Rattle.montrakit.specs.declared.naming.AccessNamed.{AccessNamed}
-use Rattle.montrakit.specs.declared.naming.AccessNamed.the-variants as Access
 use Rattle.montrakit.specs.declared.naming.FunctionNamed.{FunctionNamed}
 use Rattle.montrakit.specs.declared.naming.FunctionNamed.the-variants as Function
-use Rattle.montrakit.specs.Meanings.{countingByte, stateByte, accessWord, MeansNothing}
+use Rattle.montrakit.specs.Meanings.{countingByte, stateByte}
 
 abbrev pub CountingIs : ℕ → CountingNamed → Type 0
 CountingIs byte (Counting.Names counting) = countingByte counting ≡ byte
@@ -20,10 +19,6 @@ CountingIs byte Counting.Nothing = MeansNothing countingByte byte
 abbrev pub StateIs : ℕ → StateNamed → Type 0
 StateIs byte (State.Names state) = stateByte state ≡ byte
 StateIs byte State.Nothing = MeansNothing stateByte byte
-
-abbrev pub AccessIs : ℕ → AccessNamed → Type 0
-AccessIs word (Access.Names access) = accessWord access ≡ word
-AccessIs word Access.Nothing = MeansNothing accessWord word
 
 abbrev pub FunctionIs : ℕ → FunctionNamed → Type 0
 FunctionIs number (Function.Names function) = functionNumber function ≡ number

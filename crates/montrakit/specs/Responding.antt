@@ -6,12 +6,12 @@ use mathlib.Core.List.{List, [], _∷_}
 use Prim.Native.Nat.{ℕ}
 use lib.ListN.{length}
 use Rattle.areas.specs.declared.Area.{Area}
+use Rattle.areas.specs.Words.{MeansNothing, StandFor}
 use Rattle.slave.specs.declared.Station.{Station}
 use Rattle.slave.specs.declared.Outcome.{Outcome}
-use Rattle.slave.specs.Conditions.{BreaksARule}
 use Rattle.slave.specs.Answer as slave
 use Rattle.master.specs.Refusals.{Line, RefusedBy}
-use Rattle.montrakit.specs.Meanings.{countingByte, stateByte, MeansNothing, areaWords, OfNoList}
+use Rattle.montrakit.specs.Meanings.{countingByte, stateByte}
 use Rattle.montrakit.specs.Results.{result, badArgument, outcomeResult}
 
 -- the bad arguments of this face, in this order
@@ -34,11 +34,6 @@ pub record Settings (own counting state : ℕ) (station : Station) : Type 0 wher
   pub address : station .own ≡ own
   pub counts : countingByte (station .counting) ≡ counting
   pub does : stateByte (station .state) ≡ state
-
--- the list that words stand for: the one whose words they are. Words of no list are met as a list that breaks a rule, whichever it
--- is: refusal 3, in its place
-abbrev pub StandFor : List ℕ → ℕ → List Area → Type 0
-StandFor words imageWords areas = (areaWords areas ≡ words) ⊎ (OfNoList words × BreaksARule areas imageWords)
 
 -- the slave's answer, told as one number
 pub record Answered (own counting state : ℕ) (words frame image reply : List ℕ) (told : ℕ) (imageAfter replyAfter : List ℕ)

@@ -1,7 +1,6 @@
 // The face for programs in other languages: numbers and slices of numbers go in, and what is answered is told as one number. No
 // function has a `requires`: what means nothing is answered too. The contracts cite specs/Responding.antt and specs/Mastering.antt;
 // host/include/montrakit.h says the same to a C program, and what it owes.
-mod listing;
 mod naming;
 mod telling;
 
@@ -24,7 +23,7 @@ pub extern "C" fn montrakit_check_word(bytes: &[u8]) -> u16
     check_word::check_word(bytes)
 }
 
-// Answers one received frame, as `slave::respond` does. `areas` has three words for each area: first, count, access.
+// Answers one received frame, as `slave::respond_to_words` does. `areas` has three words for each area: first, count, access.
 #[no_mangle]
 pub extern "C" fn montrakit_respond(
     own: u8,
@@ -50,8 +49,7 @@ pub extern "C" fn montrakit_respond(
         counting,
         state,
     };
-    let list = listing::list_of(areas);
-    let outcome = slave::respond_by_value(station, list, frame, image, reply);
+    let outcome = slave::respond_to_words(station, areas, frame, image, reply);
     telling::outcome(outcome)
 }
 

@@ -1,9 +1,8 @@
 // What the numbers that come in stand for, and that others stand for nothing.
-use areas::Access;
 use master::Function;
 use slave::Counting;
 use slave::State;
-ghost use Rattle.montrakit.specs.Naming.{CountingIs, StateIs, AccessIs, FunctionIs};
+ghost use Rattle.montrakit.specs.Naming.{CountingIs, StateIs, FunctionIs};
 
 pub(crate) enum CountingNamed {
     Names(Counting),
@@ -12,11 +11,6 @@ pub(crate) enum CountingNamed {
 
 pub(crate) enum StateNamed {
     Names(State),
-    Nothing,
-}
-
-pub(crate) enum AccessNamed {
-    Names(Access),
     Nothing,
 }
 
@@ -43,16 +37,6 @@ pub(crate) fn state(byte: u8) -> StateNamed
         1 => StateNamed::Names(State::NotReady),
         2 => StateNamed::Names(State::AtTheKeyboard),
         _ => StateNamed::Nothing,
-    }
-}
-
-pub(crate) fn access(word: u16) -> AccessNamed
-    ensures { λ r. ⌜ AccessIs word r ⌝ }
-{
-    match word {
-        0 => AccessNamed::Names(Access::ReadOnly),
-        1 => AccessNamed::Names(Access::ReadWrite),
-        _ => AccessNamed::Nothing,
     }
 }
 

@@ -26,6 +26,7 @@ use Rattle.slave.specs.Answer.{Call, Answer, Respond}
 use Rattle.slave.specs.Laws as laws-of
 use Rattle.slave.proofs.Laws as laws
 use Rattle.slave.proofs.respond as respond
+use Rattle.slave.proofs.respond_to_words.Reads as to-words
 use Rattle.slave.proofs.respond_by_value.Reads as by-value
 use Rattle.slave.proofs.to_send.Reads as to-send
 use Rattle.slave.proofs.refusal_number.Reads as refusal-number
@@ -72,7 +73,20 @@ respond-accepted-length : (κs : _) (a : Args respond.signature κs) (x : Outcom
     → (n : ℕ) → x ≡ Reply n → (8 ≤ length (now (a .1 .1 .0))) × (length (now (a .1 .1 .0)) ≤ 169)
 respond-accepted-length κs a x image reply = laws.AcceptedLength (lentCall κs a) (answerOf x image reply)
 
--- ---- `respond_by_value` (`Post` is what a function ensures, `Pre` what it requires)
+-- ---- `respond_to_words` (`Post` is what a function ensures, `Pre` what it requires)
+
+-- it determines outcome, image and reply buffer
+to-words-determined : (κs : _) (a : _) (x y : Outcome) (s t : _) → to-words.Post κs a x s → to-words.Post κs a y t
+    → answerOf x (now (s .1 .1 .1 .0)) (now (s .1 .1 .1 .1 .0)) ≡ answerOf y (now (t .1 .1 .1 .0)) (now (t .1 .1 .1 .1 .0))
+to-words-determined κs a x y s t =
+    laws.RespondToWordsDetermined (a .0) (now (a .1 .0)) (now (a .1 .1 .0)) (now (a .1 .1 .1 .0)) (now (a .1 .1 .1 .1 .0))
+    (answerOf x (now (s .1 .1 .1 .0)) (now (s .1 .1 .1 .1 .0))) (answerOf y (now (t .1 .1 .1 .0)) (now (t .1 .1 .1 .1 .0)))
+
+-- it takes any arguments
+to-words-takes : (κs : _) (a : _) → to-words.Pre κs a
+to-words-takes κs a = tt
+
+-- ---- `respond_by_value`
 
 -- it determines outcome, image and reply buffer
 by-value-determined : (κs : _) (a : _) (x y : Outcome) (s t : _) → by-value.Post κs a x s → by-value.Post κs a y t

@@ -26,6 +26,12 @@ use Rattle.slave.proofs.Broken.{broken-alike}
 pub RespondDetermined : laws.RespondDetermined
 RespondDetermined = answers-determined
 
+pub RespondToWordsDetermined : laws.RespondToWordsDetermined
+RespondToWordsDetermined station areaWords frame image reply x y p q =
+    let (areas, stand) = areas-laws.WordsStandFor areaWords (length image) in
+    RespondDetermined (record { station = station; areas = areas; frame = frame; image = image; reply = reply }) x y (p areas stand)
+    (q areas stand)
+
 pub OneStandsFor : laws.OneStandsFor
 OneStandsFor areas =
     elim (decLe (length areas) mostAreas) [

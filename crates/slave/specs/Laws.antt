@@ -19,10 +19,16 @@ use Rattle.slave.specs.declared.Outcome.the-variants.{Reply}
 use Rattle.slave.specs.Numbers.{refusalNumber, silenceNumber}
 use Rattle.slave.specs.Conditions.{OfFunction}
 use Rattle.slave.specs.Answer.{Call, Answer, Answers, Respond}
+use Rattle.slave.specs.Words.{RespondToWords}
 
 -- any two answers that the promise allows for one call coincide: outcome, image and reply buffer
 abbrev pub RespondDetermined : Type 0
 RespondDetermined = (call : Call) → Determined (Answers call)
+
+-- the same with the areas as words
+abbrev pub RespondToWordsDetermined : Type 0
+RespondToWordsDetermined = (station : Station) (areaWords frame image reply : List ℕ)
+    → Determined (λ (a : Answer). RespondToWords station areaWords frame image reply (a .outcome) (a .image) (a .reply))
 
 -- a list by value stands for a list that is lent: it has the same areas, or both have too many. For each list that can be lent
 -- there is one by value that stands for it ..

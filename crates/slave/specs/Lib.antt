@@ -2,6 +2,7 @@ pub mod Numbers
 pub mod Conditions
 pub mod Table
 pub mod Answer
+pub mod Words
 pub mod Laws
 pub mod Examples
 pub mod Deciding

@@ -1,6 +1,6 @@
 // A slave's core: one received frame is answered. First it is decided what to answer, and no register is read for that; then the
-// decision is carried out, and by then nothing can go wrong. The areas are lent, and `respond_by_value` lends a list by value.
-// No public function has a `requires`. The contracts cite specs/Answer.antt.
+// decision is carried out, and by then nothing can go wrong. The areas are lent, as a slice of areas or of words; `respond_by_value`
+// lends a list by value. No public function has a `requires`. The contracts cite specs/Answer.antt and specs/Words.antt.
 mod carry;
 mod decide;
 
@@ -15,6 +15,7 @@ ghost use lib.ListN.{length, take};
 ghost use Rattle.areas.specs.Calls.{listEntries, listed};
 ghost use Rattle.slave.specs.Numbers.{refusalNumber, silenceNumber};
 ghost use Rattle.slave.specs.Answer.{toSend, Respond};
+ghost use Rattle.slave.specs.Words.{RespondToWords};
 ghost use Rattle.slave.specs.Deciding.{FoundOfSome, AnsweredBy};
 
 // The most words of an image.
@@ -95,6 +96,22 @@ pub fn respond(
 {
     let run = decide::words_asked(station, frame);
     let finding = areas::survey(areas, image.len(), run);
+    answer(station, finding, frame, image, reply)
+}
+
+// The same for areas that are lent as words, three for each: first, count, access (0 read-only, 1 read-write). Words of no list are
+// answered as a list that breaks a rule.
+pub fn respond_to_words(
+    station: Station,
+    area_words: &[u16],
+    frame: &[u8],
+    image: &mut [u16],
+    reply: &mut [u8],
+) -> Outcome
+    ensures { λ r. ⌜ RespondToWords station (now («area_words» .entry)) (now (frame .entry)) (now (image .entry)) (now (reply .entry)) r (now (image .exit)) (now (reply .exit)) ⌝ }
+{
+    let run = decide::words_asked(station, frame);
+    let finding = areas::survey_words(area_words, image.len(), run);
     answer(station, finding, frame, image, reply)
 }
 

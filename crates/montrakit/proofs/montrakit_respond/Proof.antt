@@ -2,8 +2,10 @@
 -- Assumes nothing.
 use mathlib.Core.Path.{refl}
 use mathlib.Core.Logic.{inl, inr}
+use lib.ListN.{length}
+use denote.Ref.{now}
+use Rattle.areas.proofs.Words.{stands}
 use Rattle.montrakit.proofs.Fitting.{outcome-fits}
-use Rattle.montrakit.proofs.Answered.{answered}
 use borrow.Author.Needs.{needs}
 use Rattle.montrakit.proofs.montrakit_respond.Statement.{statement}
 use Rattle.montrakit.proofs.montrakit_respond.Tie as tie
@@ -57,16 +59,15 @@ returns-2 c =
       reply-kept = refl;
     }
 
-list-of-requires : tie.Need-list-of-requires
-list-of-requires c κs = search needs
-
-respond-by-value-requires : tie.Need-respond-by-value-requires
-respond-by-value-requires c κs = search needs
+respond-to-words-requires : tie.Need-respond-to-words-requires
+respond-to-words-requires c κs = search needs
 
 outcome-requires : tie.Need-outcome-requires
 outcome-requires c κs =
     let call = c .before .before .before .before in
-    outcome-fits _ _ _ _ _ (call .respond-by-value .result) _ _ (call .respond-by-value .ensures)
+    let lent = call .before .before .before .before .before .before .before .before .before .before .before .before .before .before .before .args in
+    let (areas, stand) = stands (now (lent .areas)) (length (now (lent .image))) in
+    outcome-fits _ _ _ _ _ (call .respond-to-words .result) _ _ (call .respond-to-words .ensures areas stand)
 
 same-length : tie.Need-same-length
 same-length c = search needs
@@ -77,15 +78,22 @@ same-length-2 c = search needs
 returns-3 : tie.Need-returns-3
 returns-3 c =
     let call = c .before .before .before .before .before in
-    let made = call .before .before .before in
-    let doing = made .before .before in
+    let doing = call .before .before .before .before in
     let counted = doing .before .before .before in
     let asked = counted .before .before in
     let counts = rw (counted .counted .given .1) at (asked .before .counting .ensures) in
     let does = rw (doing .doing .given .1) at (asked .state .ensures) in
-    inr
-    (answered _ _ _ _ _ (made .list-of .result) (call .respond-by-value .result) _ _ _ _ _ record { address = refl; counts = counts; does = does } (made .list-of .ensures)
-    (call .respond-by-value .ensures) _ (c .outcome .ensures))
+    let lent = call .before .before .before .before .before .before .before .before .before .before .before .before .before .before .before .args in
+    let (areas, stand) = stands (now (lent .areas)) (length (now (lent .image))) in
+    inr record {
+      station = _;
+      settings = record { address = refl; counts = counts; does = does };
+      areas = areas;
+      meant = stand;
+      outcome = call .respond-to-words .result;
+      answers = call .respond-to-words .ensures areas stand;
+      told-as = c .outcome .ensures;
+    }
 
 pub montrakit-respond-spec : {M : Type 1} → statement M
 montrakit-respond-spec =
@@ -101,8 +109,7 @@ montrakit-respond-spec =
     enum-told-2
     bad-argument-requires-2
     returns-2
-    list-of-requires
-    respond-by-value-requires
+    respond-to-words-requires
     outcome-requires
     same-length
     same-length-2

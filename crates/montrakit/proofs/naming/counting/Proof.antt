@@ -4,7 +4,8 @@ use mathlib.Core.Path.{sym}
 use mathlib.Core.Logic.{_≢_}
 use Prim.Native.Nat.{ℕ}
 use Rattle.slave.specs.declared.Counting.the-variants.{ModBus, JBus}
-use Rattle.montrakit.specs.Meanings.{countingByte, MeansNothing}
+use Rattle.montrakit.specs.Meanings.{countingByte}
+use Rattle.areas.specs.Words.{MeansNothing}
 use borrow.Author.Needs.{needs}
 use Rattle.montrakit.proofs.naming.counting.Statement.{statement}
 use Rattle.montrakit.proofs.naming.counting.Tie as tie

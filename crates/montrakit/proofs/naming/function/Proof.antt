@@ -5,7 +5,7 @@ use mathlib.Core.Logic.{_≢_}
 use Prim.Native.Nat.{ℕ}
 use Rattle.master.specs.declared.Function.the-variants.{ReadBits01, ReadBits02, ReadWords03, ReadWords04, WriteBit05, WriteWord06, WriteBits0F, WriteWords10}
 use Rattle.master.specs.Requests.{functionNumber}
-use Rattle.montrakit.specs.Meanings.{MeansNothing}
+use Rattle.areas.specs.Words.{MeansNothing}
 use borrow.Author.Needs.{needs}
 use Rattle.montrakit.proofs.naming.function.Statement.{statement}
 use Rattle.montrakit.proofs.naming.function.Tie as tie

@@ -4,7 +4,8 @@ use mathlib.Core.Path.{sym}
 use mathlib.Core.Logic.{_≢_}
 use Prim.Native.Nat.{ℕ}
 use Rattle.slave.specs.declared.State.the-variants.{Ready, NotReady, AtTheKeyboard}
-use Rattle.montrakit.specs.Meanings.{stateByte, MeansNothing}
+use Rattle.montrakit.specs.Meanings.{stateByte}
+use Rattle.areas.specs.Words.{MeansNothing}
 use borrow.Author.Needs.{needs}
 use Rattle.montrakit.proofs.naming.state.Statement.{statement}
 use Rattle.montrakit.proofs.naming.state.Tie as tie

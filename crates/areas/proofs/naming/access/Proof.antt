@@ -3,11 +3,11 @@
 use mathlib.Core.Path.{sym}
 use mathlib.Core.Logic.{_≢_}
 use Prim.Native.Nat.{ℕ}
 use Rattle.areas.specs.declared.Access.the-variants.{ReadOnly, ReadWrite}
-use Rattle.montrakit.specs.Meanings.{accessWord, MeansNothing}
+use Rattle.areas.specs.Words.{accessWord, MeansNothing}
 use borrow.Author.Needs.{needs}
-use Rattle.montrakit.proofs.naming.access.Statement.{statement}
-use Rattle.montrakit.proofs.naming.access.Tie as tie
+use Rattle.areas.proofs.naming.access.Statement.{statement}
+use Rattle.areas.proofs.naming.access.Tie as tie
 
 nothing : (n : ℕ) → n ≢ 0 → n ≢ 1 → MeansNothing accessWord n
 nothing n a b ReadOnly e = a (sym e)
