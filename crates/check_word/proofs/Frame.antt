@@ -52,16 +52,18 @@ unfolding fed
 fed-lt [] w b h = h
 fed-lt (x ∷ xs) w b h = fed-lt xs (steps 8 (bitXor w x)) (λ i. b (suc i)) (steps-lt 8 (bitXor w x) (xor-lt 16 w x h (omega (arith, b 0))))
 
+pub check-word-lt : (bs : List ℕ) → Bytes bs → checkWord bs < 2 ^ 16
+unfolding checkWord
+check-word-lt bs b = rw add-bytes-fed (fed-lt bs start b (lit< tt))
+
 low-first-bytes : (w : ℕ) → w < 2 ^ 16 → Bytes (lowFirst w)
 low-first-bytes w h zero = omega arith
 low-first-bytes w h (suc zero) = omega arith
 low-first-bytes w h (suc (suc i)) = omega arith
 
 pub framed-bytes : (body : List ℕ) → Bytes body → Bytes (framed body)
-unfolding checkWord
 framed-bytes body b =
-    let fits : checkWord body < 2 ^ 16 = rw add-bytes-fed (fed-lt body start b (lit< tt)) in
-    bytes-append body (lowFirst (checkWord body)) b (low-first-bytes (checkWord body) fits)
+    bytes-append body (lowFirst (checkWord body)) b (low-first-bytes (checkWord body) (check-word-lt body b))
 
 -- ---- the word that they leave
 

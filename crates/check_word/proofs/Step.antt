@@ -79,7 +79,7 @@ steps-lt zero w h = h
 steps-lt (suc n) w h = steps-lt n (step w) (step-lt w h)
 
 -- a correction sets the top bit
-top-set : (h : ℕ) → h < 2 ^ 15 → 2 ^ 15 ≤ bitXor h polynomial
+pub top-set : (h : ℕ) → h < 2 ^ 15 → 2 ^ 15 ≤ bitXor h polynomial
 top-set h k =
     let none : h / 2 ^ 15 ≡ 0 = omega arith in
     let one : bitXor h polynomial / 2 ^ 15 ≡ 1 = xor-shr h polynomial 15 ∙ ap (λ (x : ℕ). bitXor x 1) none in

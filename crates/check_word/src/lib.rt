@@ -7,17 +7,17 @@ ghost use Rattle.promise.specs.Promise.{Decides};
 ghost use Rattle.check_word.specs.CheckWord.{addByte, checkWord};
 ghost use Rattle.check_word.specs.Frame.{Right, Put};
 
-const START: u16 = 0xffff;
+const START: u32 = 0xffff;
 
 // The check word so far, with one more byte: the table puts the low byte through its eight steps at once.
-fn add_byte(word: u16, byte: u8) -> u16
+fn add_byte(word: u32, byte: u8) -> u32
     ensures { λ r. ⌜ r ≡ addByte word byte ⌝ }
 {
-    let mixed = word ^ (byte as u16);
-    table::entry((mixed % 256) as u8) ^ (mixed / 256)
+    let mixed = word ^ (byte as u32);
+    (table::entry((mixed % 256) as u8) as u32) ^ (mixed / 256)
 }
 
-// The check word of the bytes.
+// The check word of the bytes. Until it is returned it stands in 32 bits, for speed; the upper sixteen are 0.
 pub fn check_word(bytes: &[u8]) -> u16
     ensures { λ r. ⌜ r ≡ checkWord (now (bytes .entry)) ⌝ }
 {
@@ -27,7 +27,7 @@ pub fn check_word(bytes: &[u8]) -> u16
         word = add_byte(word, bytes[i]);
         i += 1;
     }
-    word
+    (word % 65536) as u16
 }
 
 // Whether the frame's last two bytes, low byte first, are the check word of the rest. Under two bytes: no.

@@ -96,9 +96,12 @@ pub fn number_at(bytes: &[u8], i: usize) -> u16
     if bytes.len() <= i {
         return 0;
     }
-    let high = byte_at(bytes, i);
-    let low = byte_at(bytes, i + 1);
-    high as u16 * 256 + low as u16
+    let high = bytes[i] as u16;
+    if bytes.len() - i == 1 {
+        return high * 256;
+    }
+    let low = bytes[i + 1] as u16;
+    high * 256 + low
 }
 
 // The function that a number stands for.

@@ -5,6 +5,7 @@ use mathlib.Core.Logic.{inl, inr, _≢_}
 use mathlib.Core.List.{List}
 use Prim.Native.Nat.{ℕ, _+_, _*_, _/_, _≤_}
 use native.Mathlib.Omega.{arith}
+use lib.ListN.{length}
 use Rattle.registers.specs.Memory.{wordBits}
 use Rattle.areas.specs.Rules.{RulesKept}
 use Rattle.areas.specs.Holding.{InNoArea}
@@ -84,6 +85,15 @@ module _ (station : Station) (areas : List Area) (words room : ℕ) (frame : Lis
   enough-room kind other first =
       let behind-3 = skipped other (skipped other (skipped other first .1) .1) .1 in
       still-at-most _ _ (λ few. skipped other behind-3 .0 (omega (arith, few)))
+
+  -- a frame that an exception answers has a function
+  pub exception-long : (kind : Kind) (n : ℕ) → kind ≡ exception n → FirstDecides (table station areas words room frame) kind
+      → 2 ≤ length frame
+  exception-long kind n is first =
+      let place : kindPlace kind ≡ 2 = ap kindPlace is in
+      let call = skipped (λ e. omega arith) (skipped (λ e. omega arith) first .1) .1 in
+      let serial = skipped (λ e. omega arith) (skipped (λ e. omega arith) call .1) .1 in
+      still-at-most _ _ (λ few. skipped (λ e. omega arith) serial .0 (inl (omega (arith, few))))
 
   -- what was decided can be carried out
   pub can-be-done : (decision : Decision) → Decided (table station areas words room frame) station frame decision

@@ -2,20 +2,21 @@
 -- Assumes nothing.
 use mathlib.Core.Path.{_≡_, refl, sym, ap, _∙_}
 use mathlib.Core.List.{List, _∷_}
-use Prim.Native.Nat.{ℕ, _+_, _-_, _≤_}
+use Prim.Native.Nat.{ℕ, _+_, _*_, _-_, _≤_}
 use native.Mathlib.Omega.{arith}
 use lib.ListN.{length, take, drop, length-take, length-drop}
 use Rattle.check_word.specs.Frame.{framed}
+use Rattle.frames.specs.declared.Act.{Act}
 use Rattle.frames.specs.declared.Act.the-variants.{Read, WriteOne, WriteRun}
 use Rattle.frames.specs.declared.Width.{Width}
 use Rattle.frames.specs.declared.Width.the-variants.{Bit, Word}
 use Rattle.frames.specs.Fields.{functionField, quantityField, valueField, byteCountField, dataField, upToQuantity}
-use Rattle.frames.specs.Limits.{mostOfARun, bytesFor, replyLength}
+use Rattle.frames.specs.Limits.{mostOfARun, most, bytesFor, replyLength}
 use Rattle.slave.specs.declared.decide.Request.{Request}
 use Rattle.slave.specs.Conditions.{leastRoom}
 use Rattle.slave.specs.Answer.{StoredOne, StoredRun, over, ReplyTo, ImageAfter, Done}
 use Rattle.slave.specs.Carrying.{Inside, ReadWritten, Possible}
-use Rattle.slave.proofs.Reply.{right-framed, reply-length}
+use Rattle.slave.proofs.Reply.{reply-length}
 
 -- the part of a frame that is lent to be stored: what stands between byte count and check word
 abbrev lentBytes : List ℕ → List ℕ
@@ -25,11 +26,29 @@ most-have-room : (width : Width) (count : ℕ) → count ≤ mostOfARun width �
 most-have-room Bit count h = omega arith
 most-have-room Word count h = omega arith
 
+-- a byte takes at most eight of what is addressed
+pub eight-to-a-byte : (width : Width) (count : ℕ) → count ≤ 8 * bytesFor width count
+eight-to-a-byte Bit count = omega arith
+eight-to-a-byte Word count = omega arith
+
+most-at-most-256 : (act : Act) (width : Width) → most act width ≤ 256
+most-at-most-256 Read Bit = omega arith
+most-at-most-256 Read Word = omega arith
+most-at-most-256 WriteOne width = omega arith
+most-at-most-256 WriteRun Bit = omega arith
+most-at-most-256 WriteRun Word = omega arith
+
 module _ {frame : List ℕ} {words room : ℕ} {request : Request} (possible : Possible frame words room request) where
   -- ---- needs
 
   pub read-has-room : request .act ≡ Read → 5 + bytesFor (request .width) (request .count) ≤ leastRoom
   read-has-room act = most-have-room (request .width) (request .count) (rw act at (possible .at-most))
+
+  pub read-long : request .act ≡ Read → length frame ≡ 8
+  read-long act = rw act at (possible .long)
+
+  pub at-most-256 : request .count ≤ 256
+  at-most-256 = omega (arith, possible .at-most, most-at-most-256 (request .act) (request .width))
 
   pub one-inside : request .act ≡ WriteOne → Inside (request .width) words (request .first) 1
   one-inside act = rw (rw act at (possible .count-read)) at (possible .inside)
@@ -79,9 +98,8 @@ module _ {frame : List ℕ} {words room : ℕ} {request : Request} (possible : P
         (read .written ∙ ap (λ (k : ℕ). over (framed (body k)) reply) count) (rw act left)
 
     pub one-done : request .act ≡ WriteOne → StoredOne (request .width) (request .first) (valueField frame) image imageAfter
-        → replyAfter ≡ over (framed (upToQuantity frame)) reply → IsDone
-    one-done act stored echoed =
-        done frame (rw act refl) (rw (right-framed frame 6 (possible .right) (one-long act)) at echoed) (rw act stored)
+        → replyAfter ≡ over frame reply → IsDone
+    one-done act stored echoed = done frame (rw act refl) echoed (rw act stored)
 
     pub run-done : request .act ≡ WriteRun
         → StoredRun (request .width) (request .first) (request .count) (lentBytes frame) image imageAfter

@@ -1,13 +1,13 @@
 -- Replies: bytes written over the start of a buffer, then a lent part behind them that is filled, then the check word; and how
 -- many bytes they have.
 -- Assumes nothing.
-use mathlib.Core.Path.{_≡_, sym, ap, ap₂, _∙_}
+use mathlib.Core.Path.{_≡_, refl, sym, ap, ap₂, _∙_}
 use mathlib.Core.Bool.{Bool}
-use mathlib.Core.List.{List, _∷_, _++_, append-assoc, append-nil}
-use Prim.Native.Nat.{ℕ, _+_, _-_, _≤_}
+use mathlib.Core.List.{List, [], _∷_, _++_, append-assoc, append-nil}
+use Prim.Native.Nat.{ℕ, zero, suc, _+_, _-_, _≤_}
 use native.Mathlib.Omega.{arith}
-use lib.ListN.{length, take, drop, length-append, length-drop, take-append-drop, drop-of-length-le}
-use lib.Seq.{take-at, drop-at, take-all, drop-drop, length-take-le}
+use lib.ListN.{length, take, drop, getD, length-append, length-drop, take-append-drop, drop-of-length-le}
+use lib.Seq.{take-at, drop-at, take-all, drop-cons, drop-drop, length-take-le, sets, sets-eq}
 use Rattle.promise.proofs.Promise.{attempt-done}
 use Rattle.check_word.specs.CheckWord.{checkWord}
 use Rattle.check_word.specs.Frame.{lowFirst, framed, Right, Put}
@@ -31,6 +31,18 @@ right-framed frame n right long =
     let at : length frame - 2 ≡ n = omega arith in
     ap (λ (word : List ℕ). take n frame ++ word) (sym (rw at at (right .ends))) ∙ take-append-drop n frame
 
+-- ---- bytes that are copied one by one
+
+-- `n` elements of a list from the i-th on
+abbrev pub values : ℕ → ℕ → List ℕ → List ℕ
+values zero i xs = []
+values (suc n) i xs = getD xs i 0 ∷ values n (suc i) xs
+
+pub values-are : (n i : ℕ) (xs : List ℕ) → i + n ≤ length xs → values n i xs ≡ take n (drop i xs)
+values-are zero i xs h = refl
+values-are (suc n) i xs h =
+    rw (drop-cons xs i 0 (omega arith)) (ap (λ (rest : List ℕ). getD xs i 0 ∷ rest) (values-are n (suc i) xs (omega arith)))
+
 -- ---- a buffer that starts with a body
 
 module _ (n : ℕ) (body before mid : List ℕ) (laid : mid ≡ body ++ drop n before) (size : length body ≡ n) where
@@ -40,13 +52,22 @@ module _ (n : ℕ) (body before mid : List ℕ) (laid : mid ≡ body ++ drop n b
   behind : drop n mid ≡ drop n before
   behind = ap (drop n) laid ∙ drop-at body (drop n before) n size
 
+  long-as-before : n ≤ length before → length mid ≡ length before
+  long-as-before room = ap length laid ∙ length-append body (drop n before) ∙ omega (arith, length-drop n before)
+
+  -- more is stored behind it
+  pub body-stored : (more : List ℕ) → n + length more ≤ length before
+      → sets mid n more ≡ (body ++ more) ++ drop (n + length more) before
+  body-stored more room =
+      let k = length more in
+      sets-eq more mid n (omega (arith, long-as-before (omega arith)))
+      ∙ ap₂ (λ (b rest : List ℕ). (b ++ more) ++ rest) front (sym (drop-drop k n mid) ∙ ap (drop k) behind ∙ drop-drop k n before)
+
   -- the check word is put behind it
   pub body-framed : (r : Bool) (after : List ℕ) → n + 2 ≤ length before → Put n mid r after → after ≡ over (framed body) before
   body-framed r after room put =
-      let long : length mid ≡ length before =
-      ap length laid ∙ length-append body (drop n before) ∙ omega (arith, length-drop n before) in
       let end : n + 2 ≡ length (framed body) = omega (arith, framed-length body) in
-      attempt-done _ _ mid r after put (omega arith)
+      attempt-done _ _ mid r after put (omega (arith, long-as-before (omega arith)))
       ∙ ap₂ (λ (b rest : List ℕ). framed b ++ rest) front (sym (drop-drop 2 n mid) ∙ ap (drop 2) behind ∙ drop-drop 2 n before)
       ∙ ap (λ (k : ℕ). framed body ++ drop k before) end
 

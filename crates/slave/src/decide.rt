@@ -35,8 +35,8 @@ ghost use Rattle.slave.specs.Deciding.{wordsIn, wordsAsked, DecidedBy, D
 pub(crate) struct Request {
     pub act: Act,
     pub width: Width,
-    pub first: u16,
-    pub count: u16,
+    pub first: usize,
+    pub count: usize,
 }
 
 pub(crate) enum Decision {
@@ -222,7 +222,8 @@ fn decide_request(
     if nothing {
         return Decision::Exception(Code::Address);
     }
-    let first = counted_from_0(counting, start);
+    let first = counted_from_0(counting, start) as usize;
+    let count = count as usize;
     by_verdict(
         verdict,
         Request {

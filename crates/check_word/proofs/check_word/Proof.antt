@@ -9,6 +9,7 @@ use lib.ListN.{length, drop, getD, drop-of-length-le}
 use lib.Seq.{drop-cons}
 use borrow.Author.Needs.{needs}
 use Rattle.check_word.specs.CheckWord.{addByte, addBytes, checkWord}
+use Rattle.check_word.proofs.Frame.{check-word-lt}
 use Rattle.check_word.proofs.check_word.Statement.{statement}
 use Rattle.check_word.proofs.check_word.Tie as tie
 
@@ -52,10 +53,16 @@ loop-again c =
           ∙ sym (one-more bytes (at .word) (at .i) (omega arith)) ∙ at .inv .1,
     )
 
+cast-result : tie.Need-cast-result Inv-loop μ-loop
+cast-result c = search needs
+
+-- the word has sixteen bits, so its remainder is the word
 returns : tie.Need-returns Inv-loop μ-loop
 returns c =
     let at = c .before .loop in
-    sym (none-left (c .before .before .before .args .bytes .now) (at .word) (at .i) (omega arith)) ∙ at .inv .1
+    let bytes = c .before .before .before .args .bytes .now in
+    let whole : at .word ≡ checkWord bytes = sym (none-left bytes (at .word) (at .i) (omega arith)) ∙ at .inv .1 in
+    omega (arith, check-word-lt bytes (λ k. omega (arith, c .before .before .shared-slice-known .given k)))
 
 pub check-word-spec : {M : Type 1} → statement M
 check-word-spec =
@@ -69,4 +76,5 @@ check-word-spec =
     add-i
     loop-less
     loop-again
+    cast-result
     returns)

@@ -1,6 +1,6 @@
 -- `answer` meets its contract: what is decided can be carried out.
 -- Assumes nothing.
-use Rattle.slave.proofs.Accepted.{can-be-done}
+use Rattle.slave.proofs.Accepted.{can-be-done, exception-long}
 use borrow.Author.Needs.{needs}
 use Rattle.slave.proofs.answer.Statement.{statement}
 use Rattle.slave.proofs.answer.Tie as tie
@@ -12,7 +12,8 @@ carry-out-requires : tie.Need-carry-out-requires
 carry-out-requires c κs =
     let decision = c .before .before .decide in
     let (areas, found) = c .before .before .before .before .before .before .pre in
-    can-be-done _ areas _ _ _ (decision .result) (decision .ensures areas found)
+    let decided = decision .ensures areas found in
+    (can-be-done _ areas _ _ _ (decision .result) decided, λ n is. exception-long _ areas _ _ _ _ n is (decided .kind))
 
 same-length : tie.Need-same-length
 same-length c = search needs

@@ -17,7 +17,8 @@ enum-known-decision-3 c = search needs
 except-requires : tie.Need-except-requires
 except-requires c κs =
     let arm = c .before .before in
-    rw (arm .decision3 .given .1) at (arm .before .before .before .before .before .pre)
+    let (room, long) = rw (arm .decision3 .given .1) at (arm .before .before .before .before .before .pre) in
+    (long _ refl, room)
 
 enum-known-decision-4 : tie.Need-enum-known-decision-4
 enum-known-decision-4 c = search needs
@@ -25,7 +26,7 @@ enum-known-decision-4 c = search needs
 accept-requires : tie.Need-accept-requires
 accept-requires c κs =
     let arm = c .before .before .before in
-    (rw (arm .decision4 .given .1) at (arm .before .before .before .before .before .pre)) .1
+    (rw (arm .decision4 .given .1) at (arm .before .before .before .before .before .pre)) .0 .1
 
 returns : tie.Need-returns
 returns c = rw (c .before .decision .given .1) (record { kind = refl; left = (refl, refl) })
@@ -51,7 +52,7 @@ returns-4 : tie.Need-returns-4
 returns-4 c =
     let arm = c .before .before .before .before .before .before .before .before in
     let decided = arm .decision4 .given .1 in
-    let reads = (rw decided at (arm .before .before .before .before .before .pre)) .0 in
+    let reads = (rw decided at (arm .before .before .before .before .before .pre)) .0 .0 in
     let done = c .before .before .before .before .accept .ensures in
     rw decided (record { kind = refl; left = rw (reads .function, ← reads .first) done })
 

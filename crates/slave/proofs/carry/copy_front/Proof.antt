@@ -1,72 +1,77 @@
--- `copy_front` meets its contract. Invariant: the first i bytes are copied.
+-- `copy_front` meets its contract: the bytes that are stored are those that were loaded.
 -- Assumes nothing.
-use mathlib.Core.Path.{_≡_, refl, _∙_}
+use mathlib.Core.Path.{ap, _∙_}
 use mathlib.Core.List.{List, _++_}
-use Prim.Native.Nat.{ℕ, suc, _+_, _-_, _≤_, _<_}
-use native.Mathlib.Numerals.{add-one}
+use Prim.Native.Nat.{ℕ}
 use native.Mathlib.Omega.{arith}
-use lib.ListN.{length, take, drop, getD, set, length-set}
-use lib.Seq.{take-suc, drop-cons, append-snoc, set-at, length-take-le}
+use lib.ListN.{drop, length-set}
+use lib.Seq.{sets-eq}
+use Rattle.slave.proofs.Reply.{values, values-are}
+use borrow.Author.Needs.{needs}
 use Rattle.slave.proofs.carry.copy_front.Statement.{statement}
 use Rattle.slave.proofs.carry.copy_front.Tie as tie
 
--- one turn
-one-more : (frame reply : List ℕ) (i : ℕ) → i < length frame → i < length reply
-    → set (take i frame ++ drop i reply) i (getD frame i 0) ≡ take (i + 1) frame ++ drop (i + 1) reply
-one-more frame reply i h k =
-    let v = getD frame i 0 in
-    rw (add-one i, take-suc frame i 0 h, append-snoc (take i frame) v (drop (suc i) reply), drop-cons reply i 0 k)
-    (set-at (take i frame) (getD reply i 0) (drop (suc i) reply) v i (length-take-le i frame (omega arith)))
+shared-slice-read-station : tie.Need-shared-slice-read-station
+shared-slice-read-station c = search needs
 
-abbrev Inv-loop : tie.InvT-loop
-Inv-loop frame reply₀ i₀ reply i = (i ≤ 6) × (length reply ≡ length reply₀) × (reply ≡ take i frame ++ drop i reply₀)
+shared-slice-read-function : tie.Need-shared-slice-read-function
+shared-slice-read-function c = search needs
 
-abbrev μ-loop : tie.MeasureT-loop
-μ-loop frame reply₀ i₀ reply i = 6 - i
+shared-slice-read-start-high : tie.Need-shared-slice-read-start-high
+shared-slice-read-start-high c = search needs
 
-loop-holds : tie.Need-loop-holds Inv-loop μ-loop
-loop-holds c = (omega arith, refl, refl)
+shared-slice-read-start-low : tie.Need-shared-slice-read-start-low
+shared-slice-read-start-low c = search needs
 
-shared-slice-read-reply : tie.Need-shared-slice-read-reply Inv-loop μ-loop
-shared-slice-read-reply c = omega arith
+shared-slice-read-number-high : tie.Need-shared-slice-read-number-high
+shared-slice-read-number-high c = search needs
 
-slice-write-reply : tie.Need-slice-write-reply Inv-loop μ-loop
-slice-write-reply c = omega arith
+shared-slice-read-number-low : tie.Need-shared-slice-read-number-low
+shared-slice-read-number-low c = search needs
 
-add-i : tie.Need-add-i Inv-loop μ-loop
-add-i c = omega arith
+slice-write-reply : tie.Need-slice-write-reply
+slice-write-reply c = search needs
 
-loop-less : tie.Need-loop-less Inv-loop μ-loop
-loop-less c = omega arith
+slice-write-reply-2 : tie.Need-slice-write-reply-2
+slice-write-reply-2 c = simp length-set (omega arith)
 
-loop-again : tie.Need-loop-again Inv-loop μ-loop
-loop-again c =
-    let a = c .before .before .before .args in
-    let at = c .before .before .loop in (
-      omega arith,
-      length-set (at .reply) (at .i) (getD (a .frame .now) (at .i) 0) ∙ at .inv .1,
-      rw (at .inv .2) (one-more (a .frame .now) (a .reply .now) (at .i) (omega arith) (omega arith)),
-    )
+slice-write-reply-3 : tie.Need-slice-write-reply-3
+slice-write-reply-3 c = simp length-set (omega arith)
 
-same-length : tie.Need-same-length Inv-loop μ-loop
-same-length c = c .before .loop .inv .1
+slice-write-reply-4 : tie.Need-slice-write-reply-4
+slice-write-reply-4 c = simp length-set (omega arith)
 
-returns : tie.Need-returns Inv-loop μ-loop
+slice-write-reply-5 : tie.Need-slice-write-reply-5
+slice-write-reply-5 c = simp length-set (omega arith)
+
+slice-write-reply-6 : tie.Need-slice-write-reply-6
+slice-write-reply-6 c = search needs
+
+same-length : tie.Need-same-length
+same-length c = simp length-set
+
+returns : tie.Need-returns
 returns c =
-    let e : c .before .loop .i ≡ 6 = omega arith in
-    rw e at (c .before .loop .inv .2)
+    let a = c .before .before .before .before .before .before .args in
+    let frame = a .frame .now in
+    let reply = a .reply .now in
+    sets-eq (values 6 0 frame) reply 0 (omega arith) ∙ ap (λ (bytes : List ℕ). bytes ++ drop 6 reply) (values-are 6 0 frame (omega arith))
 
 pub copy-front-spec : {M : Type 1} → statement M
 copy-front-spec =
     tie.close
     (tie.spec
-    Inv-loop
-    μ-loop
-    loop-holds
-    shared-slice-read-reply
+    shared-slice-read-station
+    shared-slice-read-function
+    shared-slice-read-start-high
+    shared-slice-read-start-low
+    shared-slice-read-number-high
+    shared-slice-read-number-low
     slice-write-reply
-    add-i
-    loop-less
-    loop-again
+    slice-write-reply-2
+    slice-write-reply-3
+    slice-write-reply-4
+    slice-write-reply-5
+    slice-write-reply-6
     same-length
     returns)

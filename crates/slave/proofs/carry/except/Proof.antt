@@ -1,17 +1,15 @@
 -- `except` meets its contract: three bytes, with their check word behind them.
 -- Assumes nothing.
-use mathlib.Core.Path.{_≡_, refl, ap, _∙_}
+use mathlib.Core.Path.{refl}
 use mathlib.Core.List.{[], _∷_}
 use native.Mathlib.Omega.{arith}
-use Rattle.frames.specs.Fields.{functionField}
-use Rattle.frames.specs.Exceptions.{topBitSet}
 use Rattle.slave.proofs.Reply.{body-framed}
 use borrow.Author.Needs.{needs}
 use Rattle.slave.proofs.carry.except.Statement.{statement}
 use Rattle.slave.proofs.carry.except.Tie as tie
 
-byte-at-requires : tie.Need-byte-at-requires
-byte-at-requires c κs = search needs
+shared-slice-read-function : tie.Need-shared-slice-read-function
+shared-slice-read-function c = search needs
 
 top-bit-set-requires : tie.Need-top-bit-set-requires
 top-bit-set-requires c κs = search needs
@@ -35,9 +33,7 @@ returns c =
     let head = c .before .before .before .before .before .before .put-head in
     let code = c .before .before .before .before .before .before .before .code-number in
     let top = c .before .before .before .before .before .before .before .before .top-bit-set in
-    let byte = c .before .before .before .before .before .before .before .before .before .before .byte-at in
-    let function : top .result ≡ topBitSet (functionField (a .frame .now)) = top .ensures ∙ ap topBitSet (byte .ensures) in
-    rw (← function, ← code .ensures)
+    rw (← top .ensures, ← code .ensures)
     (body-framed 3 (a .own ∷ top .result ∷ code .result ∷ []) (a .reply .now) _ (head .ensures) refl (put .result) _ (omega arith)
     (put .ensures))
 
@@ -45,7 +41,7 @@ pub except-spec : {M : Type 1} → statement M
 except-spec =
     tie.close
     (tie.spec
-    byte-at-requires
+    shared-slice-read-function
     top-bit-set-requires
     code-number-requires
     put-head-requires

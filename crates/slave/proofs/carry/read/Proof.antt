@@ -12,6 +12,7 @@ use Rattle.registers.specs.Packing.{Filled}
 use Rattle.frames.specs.Fields.{functionField}
 use Rattle.slave.specs.Answer.{over}
 use Rattle.slave.proofs.Reply.{body-framed, body-more}
+use Rattle.slave.proofs.Acts.{eight-to-a-byte}
 use borrow.Author.Needs.{needs}
 use Rattle.slave.proofs.carry.read.Statement.{statement}
 use Rattle.slave.proofs.carry.read.Tie as tie
@@ -32,8 +33,13 @@ data-framed own function third m before mid part after r Shows e head room fille
     (body-more 3 (own ∷ function ∷ m ∷ []) before mid head′ refl m Shows part filled)
     (omega (arith, size)) r after (omega arith) put′
 
-byte-at-requires : tie.Need-byte-at-requires
-byte-at-requires c κs = search needs
+shared-slice-read-function : tie.Need-shared-slice-read-function
+shared-slice-read-function c = search needs
+
+cast-bytes-for : tie.Need-cast-bytes-for
+cast-bytes-for c =
+    let start = c .before .before .before .before in
+    omega (arith, eight-to-a-byte (start .args .width) (start .args .count))
 
 bytes-for-requires : tie.Need-bytes-for-requires
 bytes-for-requires c κs = search needs
@@ -72,21 +78,21 @@ returns c =
     let head = c .before .before .before .before .before .before .before .before .before .before .put-head in
     let counted = c .before .before .before .before .before .before .before .before .before .before .before .before in
     let bytes = counted .bytes-for in
-    let function = counted .before .byte-at .ensures in
     let a = counted .before .before .before .before .before .args in
     record {
       shown = _;
       are-shown = part .ensures .front;
       written =
           data-framed (a .own) (functionField (a .frame .now)) (bytes .result) _ (a .reply .now) _ _ _ (put .result) _
-          (bytes .ensures) (rw function at (head .ensures)) (omega arith) (part .ensures) (put .ensures);
+          (bytes .ensures) (head .ensures) (omega arith) (part .ensures) (put .ensures);
     }
 
 pub read-spec : {M : Type 1} → statement M
 read-spec =
     tie.close
     (tie.spec
-    byte-at-requires
+    shared-slice-read-function
+    cast-bytes-for
     bytes-for-requires
     cast-put-head
     put-head-requires

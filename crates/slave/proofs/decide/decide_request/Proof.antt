@@ -76,6 +76,12 @@ returns-4 c =
 counted-from-0-requires : tie.Need-counted-from-0-requires
 counted-from-0-requires c κs = search needs
 
+cast-first : tie.Need-cast-first
+cast-first c = search needs
+
+cast-count : tie.Need-cast-count
+cast-count c = search needs
+
 by-verdict-requires : tie.Need-by-verdict-requires
 by-verdict-requires c κs = search needs
 
@@ -122,5 +128,7 @@ decide-request-spec =
     returns-3
     returns-4
     counted-from-0-requires
+    cast-first
+    cast-count
     by-verdict-requires
     returns-5)
