@@ -1,6 +1,6 @@
-// What to answer: the lines of the answer table, in their order. What a group of lines asks is found out first, and then tested
-// line by line. Of the areas a decision knows what was found of them: line 3, and by the verdict on the words asked for, E8 and one
-// part of E2. Nothing is written, and no register is read.
+// What to answer: the lines of the answer table, in their order, each tested before anything is read for the next. Of the areas a
+// decision knows what was found of them: line 3, and by the verdict on the words asked for, E8 and one part of E2. Nothing is written,
+// and no register is read.
 use crate::Counting;
 use crate::LEAST_ROOM;
 use crate::MOST_IMAGE_WORDS;
@@ -23,7 +23,7 @@ ghost use Rattle.promise.specs.Promise.{Decides};
 ghost use Rattle.check_word.specs.Frame.{shortest, longest};
 ghost use Rattle.frames.specs.declared.Lookup.the-variants.{Found};
 ghost use Rattle.frames.specs.declared.Width.the-variants.{Bit};
-ghost use Rattle.frames.specs.Fields.{functionField};
+ghost use Rattle.frames.specs.Fields.{functionField, valueField};
 ghost use Rattle.frames.specs.Functions.{functionOf};
 ghost use Rattle.frames.specs.Limits.{quantity, BitValue};
 ghost use Rattle.slave.specs.declared.Counting.the-variants.{JBus};
@@ -114,12 +114,10 @@ fn is_no_image(words: usize) -> bool
 fn decide_frame(station: Station, verdict: Verdict, frame: &[u8]) -> Decision
     ensures { λ r. ⌜ DecidedFor frameLines station (now (frame .entry)) verdict r ⌝ }
 {
-    let no_length = is_no_length(frame.len());
-    let right = check_word::is_right(frame);
-    if no_length {
+    if is_no_length(frame.len()) {
         return Decision::Silent(Silence::FrameLength);
     }
-    if !right {
+    if !check_word::is_right(frame) {
         return Decision::Silent(Silence::CheckWord);
     }
     decide_message(station, verdict, frame)
@@ -140,21 +138,18 @@ fn decide_message(station: Station, verdict: Verdict, frame: &[u8]) -> Decision
     ensures { λ r. ⌜ DecidedFor messageLines station (now (frame .entry)) verdict r ⌝ }
 {
     let address = frames::byte_at(frame, frames::STATION_AT);
-    let anothers = is_anothers(station.own, address);
-    let state = station.state;
-    let at_the_keyboard = is_at_the_keyboard(state);
-    let not_ready = is_not_ready(state);
-    let function = frames::byte_at(frame, frames::FUNCTION_AT);
-    let found = frames::function_of(function);
-    if anothers {
+    if is_anothers(station.own, address) {
         return Decision::Silent(Silence::AnotherStation);
     }
-    if at_the_keyboard {
+    let state = station.state;
+    if is_at_the_keyboard(state) {
         return Decision::Silent(Silence::AtTheKeyboard);
     }
-    if not_ready {
+    if is_not_ready(state) {
         return Decision::Exception(Code::NotReady);
     }
+    let function = frames::byte_at(frame, frames::FUNCTION_AT);
+    let found = frames::function_of(function);
     match found {
         Lookup::NotInTable => Decision::Exception(Code::Function),
         Lookup::Found(act, width) => decide_request(station, verdict, act, width, frame),
@@ -205,21 +200,19 @@ fn decide_request(
     ensures { λ r. ⌜ DecidedFor requestLines station (now (frame .entry)) verdict r ⌝ }
 {
     let length = frames::request_length(act, frame);
-    let count = frames::quantity_of(act, frame);
-    let out_of_limits = is_out_of_limits(act, width, count, frame);
-    let start = frames::number_at(frame, frames::START_AT);
-    let counting = station.counting;
-    let nothing = names_nothing(counting, start);
     if frame.len() != length {
         return Decision::Silent(Silence::RequestLength);
     }
+    let count = frames::quantity_of(act, frame);
     if count == 0 {
         return Decision::Silent(Silence::NoQuantity);
     }
-    if out_of_limits {
+    if is_out_of_limits(act, width, count, frame) {
         return Decision::Exception(Code::Value);
     }
-    if nothing {
+    let start = frames::number_at(frame, frames::START_AT);
+    let counting = station.counting;
+    if names_nothing(counting, start) {
         return Decision::Exception(Code::Address);
     }
     let first = counted_from_0(counting, start) as usize;
@@ -245,7 +238,7 @@ fn is_out_of_limits(act: Act, width: Width, count: u16, frame: &[u8]) -> bool
     }
     match act {
         Act::Read => false,
-        Act::WriteOne => is_wrong_bit_value(width, frames::number_at(frame, frames::VALUE_AT)),
+        Act::WriteOne => is_wrong_bit_value(width, frame),
         Act::WriteRun => {
             frames::byte_at(frame, frames::BYTE_COUNT_AT) as usize
                 != frames::bytes_for(width, count)
@@ -254,11 +247,11 @@ fn is_out_of_limits(act: Act, width: Width, count: u16, frame: &[u8]) -> bool
 }
 
 // Whether a bit is to be given a value that is neither on nor off.
-fn is_wrong_bit_value(width: Width, value: u16) -> bool
-    ensures { λ r. ⌜ Decides ((width ≡ Bit) × (BitValue value → ⊥)) r ⌝ }
+fn is_wrong_bit_value(width: Width, frame: &[u8]) -> bool
+    ensures { λ r. ⌜ Decides ((width ≡ Bit) × (BitValue (valueField (now (frame .entry))) → ⊥)) r ⌝ }
 {
     match width {
-        Width::Bit => !frames::is_bit_value(value),
+        Width::Bit => !frames::is_bit_value(frames::number_at(frame, frames::VALUE_AT)),
         Width::Word => false,
     }
 }

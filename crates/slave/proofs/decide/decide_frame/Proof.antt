@@ -9,19 +9,20 @@ use Rattle.slave.proofs.decide.decide_frame.Tie as tie
 is-no-length-requires : tie.Need-is-no-length-requires
 is-no-length-requires c κs = search needs
 
+returns : tie.Need-returns
+returns c =
+    let none = c .before .is-no-length in
+    λ areas judged. here-if (none .result) (none .ensures) (c .if1 .taken) refl tt
+
 is-right-requires : tie.Need-is-right-requires
 is-right-requires c κs = search needs
 
-returns : tie.Need-returns
-returns c =
-    let none = c .before .before .is-no-length in
-    λ areas judged. here-if (none .result) (none .ensures) (c .if1 .taken) refl tt
-
 returns-2 : tie.Need-returns-2
 returns-2 c =
-    let none = c .before .before .before .is-no-length in
-    let right = c .before .before .is-right in
-    λ areas judged. past-if (none .result) (none .ensures) (c .before .if1 .left)
+    let right = c .before .is-right in
+    let long = c .before .before in
+    let none = long .before .is-no-length in
+    λ areas judged. past-if (none .result) (none .ensures) (long .if1 .left)
     (here-unless (right .result) (right .ensures) (c .if2 .taken) refl tt)
 
 decide-message-requires : tie.Need-decide-message-requires
@@ -29,9 +30,10 @@ decide-message-requires c κs = search needs
 
 returns-3 : tie.Need-returns-3
 returns-3 c =
-    let none = c .before .before .before .before .is-no-length in
-    let right = c .before .before .before .is-right in
-    λ areas judged. past-if (none .result) (none .ensures) (c .before .before .if1 .left)
+    let right = c .before .before .is-right in
+    let long = c .before .before .before in
+    let none = long .before .is-no-length in
+    λ areas judged. past-if (none .result) (none .ensures) (long .if1 .left)
     (past-unless (right .result) (right .ensures) (c .before .if2 .left) (c .decide-message .ensures areas judged))
 
 pub decide-frame-spec : {M : Type 1} → statement M
@@ -39,8 +41,8 @@ decide-frame-spec =
     tie.close
     (tie.spec
     is-no-length-requires
-    is-right-requires
     returns
+    is-right-requires
     returns-2
     decide-message-requires
     returns-3)

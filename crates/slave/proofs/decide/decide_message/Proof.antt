@@ -15,44 +15,44 @@ byte-at-requires c κs = search needs
 is-anothers-requires : tie.Need-is-anothers-requires
 is-anothers-requires c κs = search needs
 
+returns : tie.Need-returns
+returns c =
+    let anothers = c .before .is-anothers in
+    let another = rw (c .before .before .byte-at .ensures) at (anothers .ensures) in
+    λ areas judged. here-if (anothers .result) another (c .if1 .taken) refl tt
+
 is-at-the-keyboard-requires : tie.Need-is-at-the-keyboard-requires
 is-at-the-keyboard-requires c κs = search needs
 
+returns-2 : tie.Need-returns-2
+returns-2 c =
+    let keyboard = c .before .is-at-the-keyboard in
+    let ours = c .before .before in
+    let anothers = ours .before .is-anothers in
+    let another = rw (ours .before .before .byte-at .ensures) at (anothers .ensures) in
+    λ areas judged. past-if (anothers .result) another (ours .if1 .left)
+    (here-if (keyboard .result) (keyboard .ensures) (c .if2 .taken) refl tt)
+
 is-not-ready-requires : tie.Need-is-not-ready-requires
 is-not-ready-requires c κs = search needs
+
+returns-3 : tie.Need-returns-3
+returns-3 c =
+    let not-ready = c .before .is-not-ready in
+    let away = c .before .before in
+    let keyboard = away .before .is-at-the-keyboard in
+    let ours = away .before .before in
+    let anothers = ours .before .is-anothers in
+    let another = rw (ours .before .before .byte-at .ensures) at (anothers .ensures) in
+    λ areas judged. past-if (anothers .result) another (ours .if1 .left)
+    (past-if (keyboard .result) (keyboard .ensures) (away .if2 .left)
+    (here-if (not-ready .result) (not-ready .ensures) (c .if3 .taken) refl tt))
 
 byte-at-requires-2 : tie.Need-byte-at-requires-2
 byte-at-requires-2 c κs = search needs
 
 function-of-requires : tie.Need-function-of-requires
 function-of-requires c κs = search needs
-
-returns : tie.Need-returns
-returns c =
-    let read = c .before in
-    let anothers = read .before .before .before .before .is-anothers in
-    let another = rw (read .before .before .before .before .before .byte-at .ensures) at (anothers .ensures) in
-    λ areas judged. here-if (anothers .result) another (c .if1 .taken) refl tt
-
-returns-2 : tie.Need-returns-2
-returns-2 c =
-    let read = c .before .before in
-    let anothers = read .before .before .before .before .is-anothers in
-    let another = rw (read .before .before .before .before .before .byte-at .ensures) at (anothers .ensures) in
-    let keyboard = read .before .before .before .is-at-the-keyboard in
-    λ areas judged. past-if (anothers .result) another (c .before .if1 .left)
-    (here-if (keyboard .result) (keyboard .ensures) (c .if2 .taken) refl tt)
-
-returns-3 : tie.Need-returns-3
-returns-3 c =
-    let read = c .before .before .before in
-    let anothers = read .before .before .before .before .is-anothers in
-    let another = rw (read .before .before .before .before .before .byte-at .ensures) at (anothers .ensures) in
-    let keyboard = read .before .before .before .is-at-the-keyboard in
-    let not-ready = read .before .before .is-not-ready in
-    λ areas judged. past-if (anothers .result) another (c .before .before .if1 .left)
-    (past-if (keyboard .result) (keyboard .ensures) (c .before .if2 .left)
-    (here-if (not-ready .result) (not-ready .ensures) (c .if3 .taken) refl tt))
 
 enum-told : tie.Need-enum-told
 enum-told c = search needs
@@ -62,33 +62,39 @@ enum-known-found c = search needs
 
 decide-request-requires : tie.Need-decide-request-requires
 decide-request-requires c κs =
-    let read = c .before .before .before .before .before .before in
+    let read = c .before .before .before in
     let lookup = sym (read .function-of .ensures ∙ ap functionOf (read .before .byte-at2 .ensures)) in
     lookup ∙ c .before .found .given .1
 
 returns-4 : tie.Need-returns-4
 returns-4 c =
-    let read = c .before .before .before .before .before in
-    let anothers = read .before .before .before .before .is-anothers in
-    let another = rw (read .before .before .before .before .before .byte-at .ensures) at (anothers .ensures) in
-    let keyboard = read .before .before .before .is-at-the-keyboard in
-    let not-ready = read .before .before .is-not-ready in
+    let read = c .before .before in
+    let ready = read .before .before in
+    let not-ready = ready .before .is-not-ready in
+    let away = ready .before .before in
+    let keyboard = away .before .is-at-the-keyboard in
+    let ours = away .before .before in
+    let anothers = ours .before .is-anothers in
+    let another = rw (ours .before .before .byte-at .ensures) at (anothers .ensures) in
     let lookup = sym (read .function-of .ensures ∙ ap functionOf (read .before .byte-at2 .ensures)) in
-    λ areas judged. past-if (anothers .result) another (c .before .before .before .before .if1 .left)
-    (past-if (keyboard .result) (keyboard .ensures) (c .before .before .before .if2 .left)
-    (past-if (not-ready .result) (not-ready .ensures) (c .before .before .if3 .left) (here (lookup ∙ c .enum-told .given .1) refl tt)))
+    λ areas judged. past-if (anothers .result) another (ours .if1 .left)
+    (past-if (keyboard .result) (keyboard .ensures) (away .if2 .left)
+    (past-if (not-ready .result) (not-ready .ensures) (ready .if3 .left) (here (lookup ∙ c .enum-told .given .1) refl tt)))
 
 returns-5 : tie.Need-returns-5
 returns-5 c =
-    let read = c .before .before .before .before .before .before .before in
-    let anothers = read .before .before .before .before .is-anothers in
-    let another = rw (read .before .before .before .before .before .byte-at .ensures) at (anothers .ensures) in
-    let keyboard = read .before .before .before .is-at-the-keyboard in
-    let not-ready = read .before .before .is-not-ready in
+    let read = c .before .before .before .before in
+    let ready = read .before .before in
+    let not-ready = ready .before .is-not-ready in
+    let away = ready .before .before in
+    let keyboard = away .before .is-at-the-keyboard in
+    let ours = away .before .before in
+    let anothers = ours .before .is-anothers in
+    let another = rw (ours .before .before .byte-at .ensures) at (anothers .ensures) in
     let lookup = sym (read .function-of .ensures ∙ ap functionOf (read .before .byte-at2 .ensures)) in
-    λ areas judged. past-if (anothers .result) another (c .before .before .before .before .before .before .if1 .left)
-    (past-if (keyboard .result) (keyboard .ensures) (c .before .before .before .before .before .if2 .left)
-    (past-if (not-ready .result) (not-ready .ensures) (c .before .before .before .before .if3 .left)
+    λ areas judged. past-if (anothers .result) another (ours .if1 .left)
+    (past-if (keyboard .result) (keyboard .ensures) (away .if2 .left)
+    (past-if (not-ready .result) (not-ready .ensures) (ready .if3 .left)
     (past (λ none. apart lookupPlace (lookup ∙ c .before .before .found .given .1) none (omega arith)) (c .decide-request .ensures areas judged))))
 
 pub decide-message-spec : {M : Type 1} → statement M
@@ -97,13 +103,13 @@ decide-message-spec =
     (tie.spec
     byte-at-requires
     is-anothers-requires
+    returns
     is-at-the-keyboard-requires
+    returns-2
     is-not-ready-requires
+    returns-3
     byte-at-requires-2
     function-of-requires
-    returns
-    returns-2
-    returns-3
     enum-told
     enum-known-found
     decide-request-requires

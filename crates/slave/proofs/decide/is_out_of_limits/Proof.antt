@@ -28,9 +28,6 @@ enum-told c = search needs
 enum-told-2 : tie.Need-enum-told-2
 enum-told-2 c = search needs
 
-number-at-requires : tie.Need-number-at-requires
-number-at-requires c κs = search needs
-
 is-wrong-bit-value-requires : tie.Need-is-wrong-bit-value-requires
 is-wrong-bit-value-requires c κs = search needs
 
@@ -56,15 +53,14 @@ returns-2 c =
 
 returns-3 : tie.Need-returns-3
 returns-3 c =
-    let told = c .before .before .before .before .before .most-of .ensures in
-    let asked = c .before .before .before .before .before .before .before .pre in
-    let act = c .before .before .enum-told2 .given .1 in
-    let value = c .before .number-at .ensures in
-    decides-map _ _ (c .is-wrong-bit-value .result) (λ n. inr (inr (act, n .0, λ v. n .1 (rw value v))))
+    let told = c .before .before .before .before .most-of .ensures in
+    let asked = c .before .before .before .before .before .before .pre in
+    let act = c .before .enum-told2 .given .1 in
+    decides-map _ _ (c .is-wrong-bit-value .result) (λ n. inr (inr (act, n .0, n .1)))
     (elim [
       | inl h ↦ absurd (omega arith)
       | inr (inl run) ↦ absurd (apart actPlace act (run .0) (omega arith))
-      | inr (inr one) ↦ (one .1, λ v. one .2 (rw (← value) v))
+      | inr (inr one) ↦ (one .1, one .2)
     ]) (c .is-wrong-bit-value .ensures)
 
 returns-4 : tie.Need-returns-4
@@ -91,7 +87,6 @@ is-out-of-limits-spec =
     returns
     enum-told
     enum-told-2
-    number-at-requires
     is-wrong-bit-value-requires
     enum-told-3
     byte-at-requires
