@@ -84,16 +84,20 @@ fn accept(own: u8, request: Request, frame: &[u8], image: &mut [u16], reply: &mu
 {
     let act = request.act;
     let width = request.width;
+    let count = request.count as u16;
     match act {
-        Act::Read => read(
-            own,
-            width,
-            request.first,
-            request.count,
-            frame,
-            image,
-            reply,
-        ),
+        Act::Read => {
+            read(
+                own,
+                width,
+                request.first,
+                request.count,
+                frame,
+                image,
+                reply,
+            );
+            frames::reply_length(Act::Read, width, count)
+        }
         Act::WriteOne => {
             store_one(
                 width,
@@ -102,6 +106,7 @@ fn accept(own: u8, request: Request, frame: &[u8], image: &mut [u16], reply: &mu
                 image,
             );
             echo_whole(frame, reply);
+            frames::reply_length(Act::WriteOne, width, count)
         }
         Act::WriteRun => {
             // All but the check word.
@@ -114,9 +119,9 @@ fn accept(own: u8, request: Request, frame: &[u8], image: &mut [u16], reply: &mu
                 image,
             );
             echo(frame, reply);
+            frames::reply_length(Act::WriteRun, width, count)
         }
     }
-    frames::reply_length(act, width, request.count as u16)
 }
 
 // The reply to a read: three bytes, and behind them the addressed bits or words.
