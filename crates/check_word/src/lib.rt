@@ -39,10 +39,9 @@ pub fn is_right(frame: &[u8]) -> bool
     }
     let n = frame.len() - 2;
     let word = check_word(&frame[..n]);
-    if frame[n] != (word % 256) as u8 {
-        return false;
-    }
-    frame[n + 1] == (word / 256) as u8
+    let low = frame[n] as u16;
+    let high = frame[n + 1] as u16;
+    word == low + high * 256
 }
 
 // Puts the check word of the buffer's first n bytes behind them, low byte first, and says whether there was room.

@@ -1,8 +1,8 @@
--- `is_right` meets its contract: a frame is right where its last two bytes, one after the other, are the check word's.
+-- `is_right` meets its contract: a frame is right where its last two bytes, taken as one number, are the check word.
 -- Assumes nothing.
 use mathlib.Core.Path.{_≡_, sym, ap, ap₂, _∙_}
 use mathlib.Core.List.{List, [], _∷_}
-use Prim.Native.Nat.{ℕ, suc, _+_, _-_, _/_, _%_, _≤_, _<_}
+use Prim.Native.Nat.{ℕ, suc, _+_, _*_, _-_, _/_, _%_, _≤_, _<_}
 use native.Mathlib.Numerals.{add-one}
 use native.Mathlib.Omega.{arith}
 use lib.ListN.{length, take, drop, getD, drop-of-length-le}
@@ -34,6 +34,10 @@ from-right f w e right =
     let same = sym (last-two f (length f - 2) (omega arith)) ∙ right .ends ∙ ap lowFirst (sym e) in
     (ap (λ (l : List ℕ). getD l 0 0) same, ap (λ (l : List ℕ). getD l 1 0) same)
 
+-- a word is its low byte and 256 times its high byte, and no other two bytes make it
+in-bytes : (w low high : ℕ) → low < 256 → w ≡ low + high * 256 → (low ≡ w % 256) × (high ≡ w / 256)
+in-bytes w low high h e = (omega (arith, h, e), omega (arith, h, e))
+
 returns : tie.Need-returns
 returns c = search needs
 
@@ -46,33 +50,43 @@ slice-aggregate-check-word c = sym (length-take-le _ _ (omega arith))
 check-word-requires : tie.Need-check-word-requires
 check-word-requires c κs = search needs
 
-shared-slice-read-if2 : tie.Need-shared-slice-read-if2
-shared-slice-read-if2 c = search needs
+shared-slice-read-low : tie.Need-shared-slice-read-low
+shared-slice-read-low c = search needs
 
-cast-if2 : tie.Need-cast-if2
-cast-if2 c = search needs
+cast-low : tie.Need-cast-low
+cast-low c = omega (arith, c .shared-slice-known2 .given (length (c .before .before .before .before .before .args .frame .now) - 2))
+
+add-high : tie.Need-add-high
+add-high c = search needs
+
+shared-slice-read-high : tie.Need-shared-slice-read-high
+shared-slice-read-high c = search needs
+
+cast-high : tie.Need-cast-high
+cast-high c = omega (arith, c .shared-slice-known3 .given (length (c .before .before .before .before .before .before .args .frame .now) - 2 + 1))
+
+mul-result : tie.Need-mul-result
+mul-result c = omega (arith, c .shared-slice-known3 .given (length (c .before .before .before .before .before .before .args .frame .now) - 2 + 1))
+
+add-result : tie.Need-add-result
+add-result c =
+    let n = length (c .before .before .before .before .before .before .args .frame .now) - 2 in
+    omega (arith, c .before .shared-slice-known2 .given n, c .shared-slice-known3 .given (n + 1))
 
 returns-2 : tie.Need-returns-2
 returns-2 c =
+    let f = c .before .before .before .before .before .before .args .frame .now in
+    let n = length f - 2 in
     let word = c .before .before .check-word in
-    λ right. c .if2 .taken (from-right (c .before .before .before .before .before .before .args .frame .now) (word .result) (word .ensures) right .0)
-
-add-result : tie.Need-add-result
-add-result c = search needs
-
-shared-slice-read-result : tie.Need-shared-slice-read-result
-shared-slice-read-result c = search needs
-
-cast-result : tie.Need-cast-result
-cast-result c = search needs
-
-returns-3 : tie.Need-returns-3
-returns-3 c =
-    let f = c .before .before .before .before .before .before .before .args .frame .now in
-    let word = c .before .before .before .check-word in
+    let byte : getD f n 0 < 256 = omega (arith, c .before .shared-slice-known2 .given n) in
     decides-by (Right f) _
-    (λ t. to-right f (word .result) (omega arith) (word .ensures) (c .before .if2 .left) (eqb-true _ _ t))
-    (λ right. eq-eqb _ _ (from-right f (word .result) (word .ensures) right .1))
+    (λ t.
+    let (low, high) = in-bytes (word .result) (getD f n 0) (getD f (n + 1) 0) byte (eqb-true _ _ t) in
+    to-right f (word .result) (omega arith) (word .ensures) low high)
+    (λ right.
+    let (low, high) = from-right f (word .result) (word .ensures) right in
+    let same : word .result ≡ getD f n 0 + getD f (n + 1) 0 * 256 = omega (arith, low, high) in
+    eq-eqb _ _ same)
 
 pub is-right-spec : {M : Type 1} → statement M
 is-right-spec =
@@ -82,10 +96,11 @@ is-right-spec =
     sub-n
     slice-aggregate-check-word
     check-word-requires
-    shared-slice-read-if2
-    cast-if2
-    returns-2
+    shared-slice-read-low
+    cast-low
+    add-high
+    shared-slice-read-high
+    cast-high
+    mul-result
     add-result
-    shared-slice-read-result
-    cast-result
-    returns-3)
+    returns-2)
