@@ -70,12 +70,10 @@ pub enum Reading {
 pub fn build(request: Request, carried: &[u8], frame: &mut [u8]) -> Built
     ensures { λ r. ⌜ Build request (now (carried .entry)) (now (frame .entry)) r (now (frame .exit)) ⌝ }
 {
-    let refused = limits::is_refused(request, frame.len());
-    let size = limits::data_size(request);
-    if refused {
+    if limits::is_refused(request, frame.len()) {
         return Built::Refused(Refusal::Request);
     }
-    if carried.len() != size {
+    if carried.len() != limits::data_size(request) {
         return Built::Refused(Refusal::Request);
     }
     Built::Frame(put::put_request(request, carried, frame))
@@ -86,15 +84,13 @@ pub fn build(request: Request, carried: &[u8], frame: &mut [u8]) -> Built
 pub fn read_reply(request: Request, reply: &[u8], buffer: &mut [u8]) -> Reading
     ensures { λ r. ⌜ ReadReply request (now (reply .entry)) (now (buffer .entry)) r (now (buffer .exit)) ⌝ }
 {
-    let refused = limits::is_refused(request, buffer.len());
-    let right = check_word::is_right(reply);
-    if refused {
+    if limits::is_refused(request, buffer.len()) {
         return Reading::Refused(Refusal::Request);
     }
     if reply.len() < fit::SHORTEST_REPLY {
         return Reading::Refused(Refusal::CheckWord);
     }
-    if !right {
+    if !check_word::is_right(reply) {
         return Reading::Refused(Refusal::CheckWord);
     }
     let reading = fit::fit(request, reply);

@@ -69,14 +69,13 @@ pub(crate) fn data_size(request: Request) -> usize
 pub(crate) fn is_refused(request: Request, room: usize) -> bool
     ensures { λ r. ⌜ Decides (FieldsRefused request room) r ⌝ }
 {
-    let out_of_limits = is_out_of_limits(request);
-    if out_of_limits {
-        return true;
-    }
     if request.station == 0 {
         return true;
     }
-    room < LEAST_ROOM
+    if room < LEAST_ROOM {
+        return true;
+    }
+    is_out_of_limits(request)
 }
 
 // Whether the quantity or the bit value is out of limits.
@@ -87,7 +86,6 @@ fn is_out_of_limits(request: Request) -> bool
     let act = act_of(function);
     let quantity = quantity_for(act, request.operand);
     let most = frames::most_of(act, width_of(function));
-    let bit_value = frames::is_bit_value(request.operand);
     if quantity == 0 {
         return true;
     }
@@ -99,7 +97,7 @@ fn is_out_of_limits(request: Request) -> bool
         Function::ReadBits02 => false,
         Function::ReadWords03 => false,
         Function::ReadWords04 => false,
-        Function::WriteBit05 => !bit_value,
+        Function::WriteBit05 => !frames::is_bit_value(request.operand),
         Function::WriteWord06 => false,
         Function::WriteBits0F => false,
         Function::WriteWords10 => false,

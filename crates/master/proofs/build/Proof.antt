@@ -19,25 +19,26 @@ asked c = c .before .before .before .before .before .before
 
 fields-kept : (c : tie.Else2) → FieldsRefused (asked c .args .request) (length (asked c .args .frame .now)) → ⊥
 fields-kept c =
-    let refused = c .before .before .before .is-refused in
-    if-left _ (refused .result) (refused .ensures) (c .before .if1 .left)
+    let allowed = c .before .before in
+    let refused = allowed .before .is-refused in
+    if-left _ (refused .result) (refused .ensures) (allowed .if1 .left)
 
 size-kept : (c : tie.Else2) → length (asked c .args .carried .now) ≡ dataSize (asked c .args .request)
-size-kept c = omega (arith, c .before .before .data-size .ensures)
+size-kept c = omega (arith, c .before .data-size .ensures)
 
 is-refused-requires : tie.Need-is-refused-requires
 is-refused-requires c κs = search needs
 
+returns : tie.Need-returns
+returns c =
+    let refused = c .before .is-refused in
+    (inl (inr (if-taken _ (refused .result) (refused .ensures) (c .if1 .taken)), refl), refl)
+
 data-size-requires : tie.Need-data-size-requires
 data-size-requires c κs = search needs
 
-returns : tie.Need-returns
-returns c =
-    let refused = c .before .before .is-refused in
-    (inl (inr (if-taken _ (refused .result) (refused .ensures) (c .if1 .taken)), refl), refl)
-
 returns-2 : tie.Need-returns-2
-returns-2 c = (inl (inl (omega (arith, c .before .before .data-size .ensures)), refl), refl)
+returns-2 c = (inl (inl (omega (arith, c .before .data-size .ensures)), refl), refl)
 
 put-request-requires : tie.Need-put-request-requires
 put-request-requires c κs =
@@ -58,8 +59,8 @@ build-spec =
     tie.close
     (tie.spec
     is-refused-requires
-    data-size-requires
     returns
+    data-size-requires
     returns-2
     put-request-requires
     same-length

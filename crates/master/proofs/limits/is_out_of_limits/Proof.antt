@@ -25,17 +25,17 @@ at-most : (c : tie.After-most-of) → c .most-of .result ≡ most (act (asked c)
 at-most c = rw (← c .before .before .before .act-of .ensures, ← c .before .width-of .ensures) (c .most-of .ensures)
 
 -- past both tests there is only the bit value of 05
-only-05 : (c : tie.Else2) → let request = asked (c .before .before .before) in
+only-05 : (c : tie.Else2) → let request = asked (c .before .before) in
     OutOfLimits request → (request .function ≡ WriteBit05) × (BitValue (request .operand) → ⊥)
 only-05 c =
-    let measured = c .before .before .before in
+    let measured = c .before .before in
     elim [
       | inl none ↦ absurd (omega (arith, counted measured))
       | inr (inl more) ↦ absurd (omega (arith, counted measured, at-most measured))
       | inr (inr wrong) ↦ wrong
     ]
 
-other-function : (c : tie.Else2) {function : Function} → let request = asked (c .before .before .before) in
+other-function : (c : tie.Else2) {function : Function} → let request = asked (c .before .before) in
     request .function ≡ function → (functionNumber function ≡ functionNumber WriteBit05 → ⊥) → OutOfLimits request → ⊥
 other-function c is differs out = differs (ap functionNumber (sym is ∙ only-05 c out .0))
 
@@ -51,14 +51,11 @@ width-of-requires c κs = search needs
 most-of-requires : tie.Need-most-of-requires
 most-of-requires c κs = search needs
 
-is-bit-value-requires : tie.Need-is-bit-value-requires
-is-bit-value-requires c κs = search needs
-
 returns : tie.Need-returns
-returns c = inl (omega (arith, counted (c .before .before)))
+returns c = inl (omega (arith, counted (c .before)))
 
 returns-2 : tie.Need-returns-2
-returns-2 c = inr (inl (omega (arith, c .if2 .taken, counted (c .before .before .before), at-most (c .before .before .before))))
+returns-2 c = inr (inl (omega (arith, c .if2 .taken, counted (c .before .before), at-most (c .before .before))))
 
 enum-told : tie.Need-enum-told
 enum-told c = search needs
@@ -74,6 +71,9 @@ enum-told-4 c = search needs
 
 enum-told-5 : tie.Need-enum-told-5
 enum-told-5 c = search needs
+
+is-bit-value-requires : tie.Need-is-bit-value-requires
+is-bit-value-requires c κs = search needs
 
 enum-told-6 : tie.Need-enum-told-6
 enum-told-6 c = search needs
@@ -98,9 +98,9 @@ returns-6 c = other-function (c .before .before) (c .enum-told4 .given .1) (λ e
 
 returns-7 : tie.Need-returns-7
 returns-7 c =
-    let value = c .before .before .before .before .is-bit-value in
-    decides-not _ _ (value .result) (λ right out. only-05 (c .before .before) out .1 right)
-    (λ wrong. inr (inr (c .enum-told5 .given .1, wrong))) (value .ensures)
+    let value = c .is-bit-value in
+    decides-not _ _ (value .result) (λ right out. only-05 (c .before .before .before) out .1 right)
+    (λ wrong. inr (inr (c .before .enum-told5 .given .1, wrong))) (value .ensures)
 
 returns-8 : tie.Need-returns-8
 returns-8 c = other-function (c .before .before) (c .enum-told6 .given .1) (λ e. omega arith)
@@ -119,7 +119,6 @@ is-out-of-limits-spec =
     quantity-for-requires
     width-of-requires
     most-of-requires
-    is-bit-value-requires
     returns
     returns-2
     enum-told
@@ -127,6 +126,7 @@ is-out-of-limits-spec =
     enum-told-3
     enum-told-4
     enum-told-5
+    is-bit-value-requires
     enum-told-6
     enum-told-7
     enum-told-8
