@@ -1,5 +1,5 @@
 # shellcheck shell=sh
-# Sourced by the scripts of host/, which stand one folder above. The library is built, unless MONTRAKIT_LIB names a folder that holds
+# Sourced by the scripts of host/, which stand one folder above; they need an x86-64 machine. The library is built, unless MONTRAKIT_LIB names a folder that holds
 # libmontrakit.a; then that one is linked. C programs are compiled with it to target/linked/.
 set -eu
 
@@ -19,6 +19,10 @@ quietly() {
     }
 }
 
+[ "$(uname -m)" = x86_64 ] || {
+    echo "the library is for x86-64: nothing links it on this machine, $(uname -m)" >&2
+    exit 2
+}
 mkdir -p target/linked
 if [ -n "${MONTRAKIT_LIB:-}" ]; then
     library=$MONTRAKIT_LIB/libmontrakit.a
@@ -41,4 +45,18 @@ compile() {
 
 compile_stand() {
     compile stand host/c/line.c host/c/station.c host/c/telling.c
+}
+
+# section PATTERN: the bytes of the library's sections whose names match.
+section() {
+    size -A "$library" | awk -v pattern="$1" '$1 ~ pattern && $2 ~ /^[0-9]+$/ { sum += $2 } END { print sum + 0 }'
+}
+CODE='^[.]text'
+CONSTANTS='^[.]rodata'
+
+# The stack that a call of each function needs, measured.
+tell_stack() {
+    compile stack host/c/frames.c
+    echo 'Stack of a call, return address and arguments on the stack included. Measured on this build for x86-64: no contract holds it.'
+    target/linked/stack
 }

@@ -1,23 +1,14 @@
 //! Makes drawn calls of the C face of libmontrakit.a, and some of them through the wrapper too, and compares
 //! all that they leave with what the second program says.
 
-mod call;
-mod drawn;
-mod fault;
-mod guard;
-mod raw;
-mod safe;
-mod show;
-mod tally;
-mod wanted;
-
-use call::{Left, Made};
-use drawn::{Drawing, Drawn};
-use raw::Rooms;
-use show::Difference;
+use face::call::{Left, Made};
+use face::drawn::{Drawing, Drawn};
+use face::raw::{Rooms, OURS};
+use face::show::Difference;
+use face::tally::Tally;
+use face::{fault, safe, wanted};
 use std::io;
 use std::process::ExitCode;
-use tally::Tally;
 
 const USAGE: &str = "\
 usage: compare SEED COUNT        makes COUNT drawn calls
@@ -39,7 +30,7 @@ impl Comparison {
     fn make(&mut self, number: u64, drawn: &Drawn) {
         let wanted = wanted::left(&drawn.call);
         self.tally.count(drawn, wanted.answer);
-        let got = self.rooms.make(&drawn.call, drawn.ways);
+        let got = self.rooms.make(&OURS, &drawn.call, drawn.ways);
         let mut differing = differs(&wanted, &got).then_some(("the C face", got));
         if drawn.wrapped && differing.is_none() {
             if let Some(got) = safe::make(&mut self.rooms, &drawn.call, drawn.ways) {

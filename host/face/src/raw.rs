@@ -27,7 +27,36 @@ fn pointer_mut<T>(buffer: &mut [T], way: Way) -> *mut T {
     buffer.as_mut_ptr()
 }
 
-type Master = unsafe extern "C" fn(u8, u8, u16, u16, *const u8, usize, *mut u8, usize) -> u32;
+pub type CheckWordFn = unsafe extern "C" fn(*const u8, usize) -> u16;
+pub type RespondFn = unsafe extern "C" fn(
+    u8,
+    u8,
+    u8,
+    *const u16,
+    usize,
+    *const u8,
+    usize,
+    *mut u16,
+    usize,
+    *mut u8,
+    usize,
+) -> u32;
+pub type MasterFn = unsafe extern "C" fn(u8, u8, u16, u16, *const u8, usize, *mut u8, usize) -> u32;
+
+/// The four functions of the C face, or others that ask no more of their callers.
+pub struct Functions {
+    pub check_word: CheckWordFn,
+    pub respond: RespondFn,
+    pub build: MasterFn,
+    pub read: MasterFn,
+}
+
+pub const OURS: Functions = Functions {
+    check_word: ffi::montrakit_check_word,
+    respond: ffi::montrakit_respond,
+    build: ffi::montrakit_build,
+    read: ffi::montrakit_read,
+};
 
 impl Rooms {
     pub fn new() -> io::Result<Rooms> {
@@ -39,23 +68,24 @@ impl Rooms {
         })
     }
 
-    pub fn make(&mut self, call: &Call, ways: Ways) -> Made {
+    pub fn make(&mut self, functions: &Functions, call: &Call, ways: Ways) -> Made {
         match call {
-            Call::Respond(call) => self.respond(call, ways),
-            Call::Build(ask) => self.ask(ffi::montrakit_build, ask, ways),
-            Call::Read(ask) => self.ask(ffi::montrakit_read, ask, ways),
-            Call::CheckWord(bytes) => self.check_word(bytes, ways),
+            Call::Respond(call) => self.respond(functions.respond, call, ways),
+            Call::Build(ask) => self.ask(functions.build, ask, ways),
+            Call::Read(ask) => self.ask(functions.read, ask, ways),
+            Call::CheckWord(bytes) => self.check_word(functions.check_word, bytes, ways),
         }
     }
 
-    fn respond(&mut self, call: &Respond, [first, second, third, fourth]: Ways) -> Made {
+    fn respond(&mut self, function: RespondFn, call: &Respond, ways: Ways) -> Made {
+        let [first, second, third, fourth] = ways;
         let areas = self.areas.lend(&call.areas, first.border);
         let frame = self.given.lend(&call.frame, second.border);
         let image = self.image.lend(&call.image, third.border);
         let reply = self.lent.lend(&call.reply, fourth.border);
         // SAFETY: each pointer and length are those of a slice in a room of its own, or null and 0.
         let answer = unsafe {
-            ffi::montrakit_respond(
+            function(
                 call.own,
                 call.counting,
                 call.state,
@@ -79,7 +109,7 @@ impl Rooms {
         }
     }
 
-    fn ask(&mut self, function: Master, ask: &Ask, [first, second, ..]: Ways) -> Made {
+    fn ask(&mut self, function: MasterFn, ask: &Ask, [first, second, ..]: Ways) -> Made {
         let given = self.given.lend(&ask.given, first.border);
         let lent = self.lent.lend(&ask.lent, second.border);
         // SAFETY: each pointer and length are those of a slice in a room of its own, or null and 0.
@@ -105,10 +135,10 @@ impl Rooms {
         }
     }
 
-    fn check_word(&mut self, bytes: &[u8], [first, ..]: Ways) -> Made {
+    fn check_word(&mut self, function: CheckWordFn, bytes: &[u8], [first, ..]: Ways) -> Made {
         let given = self.given.lend(bytes, first.border);
         // SAFETY: pointer and length are those of a slice, or null and 0.
-        let word = unsafe { ffi::montrakit_check_word(pointer(given, first), given.len()) };
+        let word = unsafe { function(pointer(given, first), given.len()) };
         Made {
             left: Left {
                 answer: word.into(),
