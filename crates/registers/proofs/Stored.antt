@@ -1,9 +1,10 @@
 -- Images in which a run was stored: runs of bits one behind the other, bits stored into one word, and words one by one.
 -- Assumes nothing.
-use mathlib.Core.Path.{_≡_, refl, ap, _∙_, subst}
+use mathlib.Core.Path.{_≡_, refl, sym, ap, _∙_, subst}
 use mathlib.Core.Logic.{_≢_, inl, inr, ⊎-elim}
 use mathlib.Core.List.{List}
 use Prim.Native.Nat.{ℕ, _+_, _-_, _*_, _%_, _^_, _≤_, _<_}
+use native.Mathlib.Nat.{zero-add}
 use native.Mathlib.Omega.{arith}
 use lib.ListN.{length, getD, set, length-set}
 use lib.Seq.{getD-set-same, getD-set-other}
@@ -11,6 +12,7 @@ use Rattle.registers.specs.Memory.{wordBits, bit, imageWord, imageBit, F
 use Rattle.registers.specs.Storing.{Outside, BitsStored, WordsStored}
 use Rattle.registers.specs.Pieces.{Shows}
 use Rattle.registers.proofs.Places.{lt-or-le}
+use Rattle.registers.proofs.Bit.{bit-past}
 use Rattle.registers.proofs.Numbers.{bitAt-set-same, bitAt-set-kept, numbers-set}
 
 -- ---- bits
@@ -19,16 +21,6 @@ use Rattle.registers.proofs.Numbers.{bitAt-set-same, bitAt-set-kept, nu
 pub stored-none : (first : ℕ) (run : ℕ → ℕ) (image : List ℕ) → FitIn wordBits image → BitsStored first 0 run image image
 stored-none first run image fit =
     record { as-long = refl; words-fit = fit; stored = λ n h. absurd (omega arith); kept = λ k out. refl }
-
--- .. which stands anywhere
-pub stored-none-anywhere : (a b : ℕ) (f g : ℕ → ℕ) (x y : List ℕ) → BitsStored a 0 f x y → BitsStored b 0 g x y
-stored-none-anywhere a b f g x y s =
-    record {
-      as-long = s .as-long;
-      words-fit = s .words-fit;
-      stored = λ n h. absurd (omega arith);
-      kept = λ k out. s .kept k (⊎-elim (λ l. inl l) (λ l. inr (omega arith)) (lt-or-le k a));
-    }
 
 -- another run with the same bits
 pub stored-run : {first count : ℕ} {f g : ℕ → ℕ} {x y : List ℕ} → BitsStored first count f x y
@@ -88,6 +80,17 @@ stored-in-word image word place width v run inside fits fit small new old =
           bitAt-set-kept 16 image word v k inside
           (λ e. old (k % 16) (⊎-elim (λ l. inl (omega arith)) (λ l. inr (omega arith)) out));
     }
+
+-- all the bits of one word
+pub stored-word : (image : List ℕ) (word v : ℕ) → word < length image → FitIn wordBits image → v < 2 ^ wordBits
+    → BitsStored (word * wordBits + 0) wordBits (bit v) image (set image word v)
+stored-word image word v inside fit small =
+    stored-in-word image word 0 16 v (bit v) inside (omega arith) fit small (λ n h. ap (bit v) (zero-add n))
+    (λ p out.
+    elim out [
+      | inl l ↦ absurd (omega arith)
+      | inr l ↦ bit-past 16 v p small (omega arith) ∙ sym (bit-past 16 (getD image word 0) p (fit word) (omega arith))
+    ])
 
 -- ---- words
 

@@ -120,13 +120,36 @@ pub(crate) fn store_piece(image: &mut [u16], word: usize, place: usize, width: u
     image[word] = (old / high * high + (new * low + old % low)) as u16;
 }
 
+// A word of two bytes, low byte first.
+fn low_first(low: u8, high: u8) -> u16
+    ensures { λ r. ⌜ r ≡ high * 256 + low ⌝ }
+{
+    (high as u16) * 256 + (low as u16)
+}
+
+// Stores `whole` words of packed bits that start with a byte: each is two bytes, and nothing is shifted.
+fn store_byte_pairs(image: &mut [u16], word: usize, whole: usize, bytes: &[u8], at: usize)
+    requires { ⌜ (word + whole ≤ length (now image)) × (at + 2 * whole ≤ length (now bytes)) ⌝ }
+    ensures { λ _. ⌜ BitsStored (word * wordBits) (whole * wordBits) (from (at * byteBits) (packedBit (now (bytes .entry))))
+        (now (image .entry)) (now (image .exit)) ⌝ }
+{
+    let mut i = 0;
+    while i < whole {
+        image[word + i] = low_first(bytes[at + 2 * i], bytes[at + 2 * i + 1]);
+        i += 1;
+    }
+}
+
 // Stores `whole` words of packed bits, from `place` of a byte on.
 fn store_whole(image: &mut [u16], word: usize, whole: usize, bytes: &[u8], at: usize, place: usize)
-    requires { ⌜ (word + whole ≤ length (now image))
-        × (at * byteBits + whole * wordBits < 2 ^ 64) × (place < byteBits) ⌝ }
+    requires { ⌜ (word + whole ≤ length (now image)) × (at + 2 * whole ≤ length (now bytes)) × (place < byteBits) ⌝ }
     ensures { λ _. ⌜ BitsStored (word * wordBits) (whole * wordBits) (from (at * byteBits + place) (packedBit (now (bytes .entry))))
         (now (image .entry)) (now (image .exit)) ⌝ }
 {
+    if place == 0 {
+        store_byte_pairs(image, word, whole, bytes, at);
+        return;
+    }
     let mut i = 0;
     while i < whole {
         store_piece(
@@ -144,7 +167,7 @@ fn store_whole(image: &mut [u16], word: usize, whole: usize, bytes: &[u8], at: u
 // then the bits of a last one.
 fn store_rest(image: &mut [u16], word: usize, count: usize, bytes: &[u8], at: usize, place: usize)
     requires { ⌜ (word * wordBits + count ≤ length (now image) * wordBits)
-        × (at * byteBits + count < 2 ^ 64) × (place < byteBits) ⌝ }
+        × (at * byteBits + place + count ≤ length (now bytes) * byteBits) × (place < byteBits) ⌝ }
     ensures { λ _. ⌜ BitsStored (word * wordBits) count (from (at * byteBits + place) (packedBit (now (bytes .entry))))
         (now (image .entry)) (now (image .exit)) ⌝ }
 {
@@ -170,9 +193,9 @@ fn smaller(a: usize, b: usize) -> usize
     if a < b { a } else { b }
 }
 
-// Stores a run of packed bits that lies inside the image: what fits into the run's first word, and then the rest.
+// Stores a run of packed bits that lies inside the image: what fits into the run's first word, and then the rest, if any.
 pub(crate) fn store_run(image: &mut [u16], first: usize, count: usize, bytes: &[u8])
-    requires { ⌜ BitsInside (now image) first count ⌝ }
+    requires { ⌜ BitsInside (now image) first count × (bytesForBits count ≤ length (now bytes)) ⌝ }
     ensures { λ _. ⌜ BitsStored first count (packedBit (now (bytes .entry))) (now (image .entry)) (now (image .exit)) ⌝ }
 {
     if count == 0 {
@@ -182,6 +205,9 @@ pub(crate) fn store_run(image: &mut [u16], first: usize, count: usize, bytes: &[
     let place = first % WORD_BITS;
     let head = smaller(WORD_BITS - place, count);
     store_piece(image, word, place, head, packed_bits(bytes, 0, 0));
+    if head == count {
+        return;
+    }
     store_rest(
         image,
         word + 1,

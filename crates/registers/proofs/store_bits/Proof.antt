@@ -17,7 +17,7 @@ returns c =
 store-run-requires : tie.Need-store-run-requires
 store-run-requires c κs =
     let test = c .before .before .bits-fit in
-    passed _ (test .result) (test .ensures) (c .before .if1 .left) .0
+    passed _ (test .result) (test .ensures) (c .before .if1 .left)
 
 same-length : tie.Need-same-length
 same-length c = search needs

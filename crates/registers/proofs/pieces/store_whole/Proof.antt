@@ -1,4 +1,5 @@
--- `store_whole` meets its contract. Invariant: the first i words are stored.
+-- `store_whole` meets its contract: by pairs of bytes, where the bits start with a byte, and else by a loop. Invariant: the first
+-- i words are stored.
 -- Assumes nothing.
 use mathlib.Core.Path.{_≡_, ap, subst}
 use Prim.Native.Nat.{ℕ, _+_, _-_, _*_, _≤_}
@@ -18,10 +19,24 @@ Inv-loop image₀ word whole bytes at place i₀ image i =
 abbrev μ-loop : tie.MeasureT-loop
 μ-loop image₀ word whole bytes at place i₀ image i = whole - i
 
+store-byte-pairs-requires : tie.Need-store-byte-pairs-requires Inv-loop μ-loop
+store-byte-pairs-requires c κs = omega arith
+
+same-length : tie.Need-same-length Inv-loop μ-loop
+same-length c = c .before .before .store-byte-pairs .ensures .as-long
+
+returns : tie.Need-returns Inv-loop μ-loop
+returns c =
+    let a = c .before .before .before .before .before .before .before .args in
+    let pairs = c .before .before .store-byte-pairs in
+    let e : a .at * 8 ≡ a .at * 8 + a .place = omega arith in
+    subst (λ (k : ℕ). BitsStored (a .word * 16) (a .whole * 16) (from k (packedBit (a .bytes .now))) (a .image .now) (pairs .last .0)) e
+    (pairs .ensures)
+
 loop-holds : tie.Need-loop-holds Inv-loop μ-loop
 loop-holds c =
-    let a = c .before .before .args in
-    (omega arith, stored-none (a .word * wordBits) _ (a .image .now) (λ i. c .before .slice-known .given i .fits))
+    let a = c .before .before .before .args in
+    (omega arith, stored-none (a .word * wordBits) _ (a .image .now) (λ i. c .before .before .slice-known .given i .fits))
 
 add-store-piece : tie.Need-add-store-piece Inv-loop μ-loop
 add-store-piece c = omega arith
@@ -46,7 +61,7 @@ loop-less c = omega arith
 
 loop-again : tie.Need-loop-again Inv-loop μ-loop
 loop-again c =
-    let a = c .before .before .before .before .before .before .before .before .before .args in
+    let a = c .before .before .before .before .before .before .before .before .before .before .args in
     let bytes = a .bytes .now in
     let now = c .before .before .before .before .before .before .loop in
     let piece = c .before .before .store-piece in
@@ -61,12 +76,12 @@ loop-again c =
           (piece .ensures)),
     )
 
-same-length : tie.Need-same-length Inv-loop μ-loop
-same-length c = c .before .loop .inv .1 .as-long
+same-length-2 : tie.Need-same-length-2 Inv-loop μ-loop
+same-length-2 c = c .before .loop .inv .1 .as-long
 
-returns : tie.Need-returns Inv-loop μ-loop
-returns c =
-    let e : c .before .loop .i ≡ c .before .before .before .before .args .whole = omega arith in
+returns-2 : tie.Need-returns-2 Inv-loop μ-loop
+returns-2 c =
+    let e : c .before .loop .i ≡ c .before .before .before .before .before .args .whole = omega arith in
     rw (← e) (c .before .loop .inv .1)
 
 pub store-whole-spec : {M : Type 1} → statement M
@@ -75,6 +90,9 @@ store-whole-spec =
     (tie.spec
     Inv-loop
     μ-loop
+    store-byte-pairs-requires
+    same-length
+    returns
     loop-holds
     add-store-piece
     mul-packed-bits
@@ -84,5 +102,5 @@ store-whole-spec =
     add-i
     loop-less
     loop-again
-    same-length
-    returns)
+    same-length-2
+    returns-2)
