@@ -46,16 +46,30 @@ pub(crate) enum Decision {
     Accepted(Request),
 }
 
+// The function that a frame names.
+pub(crate) fn function_in(frame: &[u8]) -> Lookup
+    ensures { λ r. ⌜ r ≡ functionOf (functionField (now (frame .entry))) ⌝ }
+{
+    let function = frames::byte_at(frame, frames::FUNCTION_AT);
+    frames::function_of(function)
+}
+
 // The words that a frame asks for. The areas are asked of them at once, before it is known whether that matters.
 pub(crate) fn words_asked(station: Station, frame: &[u8]) -> Run
     ensures { λ r. ⌜ r ≡ wordsAsked station (now (frame .entry)) ⌝ }
 {
-    let function = frames::byte_at(frame, frames::FUNCTION_AT);
-    let found = frames::function_of(function);
+    words_asked_by(station, function_in(frame), frame)
+}
+
+// The same where the function is known.
+pub(crate) fn words_asked_by(station: Station, function: Lookup, frame: &[u8]) -> Run
+    requires { ⌜ function ≡ functionOf (functionField (now frame)) ⌝ }
+    ensures { λ r. ⌜ r ≡ wordsAsked station (now (frame .entry)) ⌝ }
+{
     let start = frames::number_at(frame, frames::START_AT);
     let counting = station.counting;
     let first = counted_from_0(counting, start);
-    match found {
+    match function {
         Lookup::NotInTable => Run { first: 0, count: 0 },
         Lookup::Found(act, width) => words_in(width, first, frames::quantity_of(act, frame)),
     }
@@ -80,8 +94,10 @@ pub(crate) fn decide(
     finding: Finding,
     words: usize,
     room: usize,
+    function: Lookup,
     frame: &[u8],
 ) -> Decision
+    requires { ⌜ function ≡ functionOf (functionField (now frame)) ⌝ }
     ensures { λ r. ⌜ DecidedBy station (now (frame .entry)) words room finding r ⌝ }
 {
     let no_image = is_no_image(words);
@@ -97,7 +113,7 @@ pub(crate) fn decide(
     if room < LEAST_ROOM {
         return Decision::Refused(Refusal::ReplyBuffer);
     }
-    decide_frame(station, verdict, frame)
+    decide_frame(station, verdict, function, frame)
 }
 
 // Line 2: an image has 1 to 4,095 words.
@@ -111,7 +127,8 @@ fn is_no_image(words: usize) -> bool
 }
 
 // From line 10 on. Lines 10 and 11 are about the frame as the serial line brings it.
-fn decide_frame(station: Station, verdict: Verdict, frame: &[u8]) -> Decision
+fn decide_frame(station: Station, verdict: Verdict, function: Lookup, frame: &[u8]) -> Decision
+    requires { ⌜ function ≡ functionOf (functionField (now frame)) ⌝ }
     ensures { λ r. ⌜ DecidedFor frameLines station (now (frame .entry)) verdict r ⌝ }
 {
     if is_no_length(frame.len()) {
@@ -120,7 +137,7 @@ fn decide_frame(station: Station, verdict: Verdict, frame: &[u8]) -> Decision
     if !check_word::is_right(frame) {
         return Decision::Silent(Silence::CheckWord);
     }
-    decide_message(station, verdict, frame)
+    decide_message(station, verdict, function, frame)
 }
 
 // Line 10: a frame has 4 to 256 bytes.
@@ -134,7 +151,8 @@ fn is_no_length(length: usize) -> bool
 }
 
 // From line 12 on: address, function and data.
-fn decide_message(station: Station, verdict: Verdict, frame: &[u8]) -> Decision
+fn decide_message(station: Station, verdict: Verdict, function: Lookup, frame: &[u8]) -> Decision
+    requires { ⌜ function ≡ functionOf (functionField (now frame)) ⌝ }
     ensures { λ r. ⌜ DecidedFor messageLines station (now (frame .entry)) verdict r ⌝ }
 {
     let address = frames::byte_at(frame, frames::STATION_AT);
@@ -148,9 +166,7 @@ fn decide_message(station: Station, verdict: Verdict, frame: &[u8]) -> Decision
     if is_not_ready(state) {
         return Decision::Exception(Code::NotReady);
     }
-    let function = frames::byte_at(frame, frames::FUNCTION_AT);
-    let found = frames::function_of(function);
-    match found {
+    match function {
         Lookup::NotInTable => Decision::Exception(Code::Function),
         Lookup::Found(act, width) => decide_request(station, verdict, act, width, frame),
     }
@@ -233,13 +249,13 @@ fn is_out_of_limits(act: Act, width: Width, count: u16, frame: &[u8]) -> bool
     requires { ⌜ count ≡ quantity act (now frame) ⌝ }
     ensures { λ r. ⌜ Decides (OutOfLimits (now (frame .entry)) act width) r ⌝ }
 {
-    if frames::most_of(act, width) < count {
-        return true;
-    }
     match act {
-        Act::Read => false,
+        Act::Read => frames::most_of(Act::Read, width) < count,
         Act::WriteOne => is_wrong_bit_value(width, frame),
         Act::WriteRun => {
+            if frames::most_of(Act::WriteRun, width) < count {
+                return true;
+            }
             frames::byte_at(frame, frames::BYTE_COUNT_AT) as usize
                 != frames::bytes_for(width, count)
         }
