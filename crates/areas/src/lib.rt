@@ -87,7 +87,7 @@ pub fn survey_words(area_words: &[u16], words: usize, run: Run) -> Finding
     if MOST_AREAS < n {
         return Finding::BreaksARule;
     }
-    let mut s = Search::begin(n, words, run);
+    let mut s = Search::begin_at(n, words, run.first, run.count);
     let mut i = 0;
     while i < n {
         let at = i * AREA_WORDS;

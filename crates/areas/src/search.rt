@@ -40,13 +40,20 @@ impl Search {
     pub(crate) fn begin(len: usize, words: usize, run: Run) -> Self
         ensures { λ r. ⌜ Begun len words run r ⌝ }
     {
+        Search::begin_at(len, words, run.first, run.count)
+    }
+
+    // The same for the run of `count` words from `first` on.
+    pub(crate) fn begin_at(len: usize, words: usize, first: u16, count: u16) -> Self
+        ensures { λ r. ⌜ Begun len words (record { first = first; count = count }) r ⌝ }
+    {
         Search {
             words,
-            first: run.first as usize,
-            end: run.first as usize + run.count as usize,
+            first: first as usize,
+            end: first as usize + count as usize,
             kept: len <= MOST_AREAS,
             from: 0,
-            reached: run.first as usize,
+            reached: first as usize,
             read_only: false,
         }
     }

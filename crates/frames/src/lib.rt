@@ -1,7 +1,9 @@
 // What both ends of the line speak of: the functions, how much they may ask for, byte counts and lengths, numbers of two bytes,
 // exception codes. No public function has a `requires`. The contracts cite specs/.
 ghost use mathlib.Core.Path.{_≡_};
+ghost use Prim.Native.Nat.{_+_, _<_};
 ghost use Rattle.promise.specs.Promise.{Decides};
+ghost use Rattle.frames.specs.declared.Act.the-variants.{WriteOne};
 ghost use Rattle.frames.specs.Fields.{byte, number};
 ghost use Rattle.frames.specs.Functions.{functionOf};
 ghost use Rattle.frames.specs.Limits.{quantity, most, mostOfARun, bytesFor, requestLength, replyLength, BitValue};
@@ -89,17 +91,27 @@ pub fn byte_at(bytes: &[u8], i: usize) -> u8
     bytes[i]
 }
 
+// Whether byte i and the next are there.
+fn are_two_at(len: usize, i: usize) -> bool
+    ensures { λ r. ⌜ Decides (i + 1 < len) r ⌝ }
+{
+    if len <= i {
+        return false;
+    }
+    if len - i == 1 {
+        return false;
+    }
+    true
+}
+
 // The number of two bytes at i, high byte first; bytes past the end count as 0.
 pub fn number_at(bytes: &[u8], i: usize) -> u16
     ensures { λ r. ⌜ r ≡ number (now (bytes .entry)) i ⌝ }
 {
-    if bytes.len() <= i {
-        return 0;
+    if !are_two_at(bytes.len(), i) {
+        return byte_at(bytes, i) as u16 * 256;
     }
     let high = bytes[i] as u16;
-    if bytes.len() - i == 1 {
-        return high * 256;
-    }
     let low = bytes[i + 1] as u16;
     high * 256 + low
 }
@@ -121,15 +133,25 @@ pub fn function_of(number: u8) -> Lookup
     }
 }
 
+// Whether a request is about one bit or word, and has no quantity.
+fn is_of_one(act: Act) -> bool
+    ensures { λ r. ⌜ Decides (act ≡ WriteOne) r ⌝ }
+{
+    match act {
+        Act::Read => false,
+        Act::WriteOne => true,
+        Act::WriteRun => false,
+    }
+}
+
 // How many bits or words a request is about.
 pub fn quantity_of(act: Act, frame: &[u8]) -> u16
     ensures { λ r. ⌜ r ≡ quantity act (now (frame .entry)) ⌝ }
 {
-    match act {
-        Act::Read => number_at(frame, QUANTITY_AT),
-        Act::WriteOne => 1,
-        Act::WriteRun => number_at(frame, QUANTITY_AT),
+    if is_of_one(act) {
+        return 1;
     }
+    number_at(frame, QUANTITY_AT)
 }
 
 fn most_of_a_run(width: Width) -> u16

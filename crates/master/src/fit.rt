@@ -37,7 +37,6 @@ pub(crate) fn fit(request: Request, reply: &[u8]) -> Reading
 {
     let function = request.function;
     let number = crate::function_number(function);
-    let act = limits::act_of(function);
     let station = frames::byte_at(reply, frames::STATION_AT);
     let answered = frames::byte_at(reply, frames::FUNCTION_AT);
     if station != request.station {
@@ -49,7 +48,7 @@ pub(crate) fn fit(request: Request, reply: &[u8]) -> Reading
     if answered != number {
         return Reading::Refused(Refusal::Reply);
     }
-    match act {
+    match limits::act_of(function) {
         Act::Read => fit_read(request, reply),
         Act::WriteOne => fit_write(request, reply),
         Act::WriteRun => fit_write(request, reply),

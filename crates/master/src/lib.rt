@@ -70,13 +70,15 @@ pub enum Reading {
 pub fn build(request: Request, carried: &[u8], frame: &mut [u8]) -> Built
     ensures { λ r. ⌜ Build request (now (carried .entry)) (now (frame .entry)) r (now (frame .exit)) ⌝ }
 {
+    let function = request.function;
+    let number = function_number(function);
     if limits::is_refused(request, frame.len()) {
         return Built::Refused(Refusal::Request);
     }
     if carried.len() != limits::data_size(request) {
         return Built::Refused(Refusal::Request);
     }
-    Built::Frame(put::put_request(request, carried, frame))
+    Built::Frame(put::put_request(request, number, carried, frame))
 }
 
 // Reads a reply beside the request that it answers. The bytes of the buffer beyond the data keep their content; where no data are

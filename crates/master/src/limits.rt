@@ -6,8 +6,11 @@ use crate::Request;
 use frames::Act;
 use frames::Width;
 ghost use mathlib.Core.Path.{_≡_};
+ghost use mathlib.Core.Logic.{_⊎_};
+ghost use Prim.Native.Nat.{_<_};
 ghost use Rattle.promise.specs.Promise.{Decides};
-ghost use Rattle.master.specs.Requests.{actOf, widthOf, quantityFor, dataSize};
+ghost use Rattle.frames.specs.Limits.{mostOfARun};
+ghost use Rattle.master.specs.Requests.{actOf, widthOf, dataSize};
 ghost use Rattle.master.specs.Refusals.{OutOfLimits, FieldsRefused};
 
 // What a function does.
@@ -42,17 +45,6 @@ pub(crate) fn width_of(function: Function) -> Width
     }
 }
 
-// How many bits or words a request is about.
-fn quantity_for(act: Act, operand: u16) -> u16
-    ensures { λ r. ⌜ r ≡ quantityFor act operand ⌝ }
-{
-    match act {
-        Act::Read => operand,
-        Act::WriteOne => 1,
-        Act::WriteRun => operand,
-    }
-}
-
 // How many bytes of data a request is built with.
 pub(crate) fn data_size(request: Request) -> usize
     ensures { λ r. ⌜ r ≡ dataSize request ⌝ }
@@ -69,13 +61,13 @@ pub(crate) fn data_size(request: Request) -> usize
 pub(crate) fn is_refused(request: Request, room: usize) -> bool
     ensures { λ r. ⌜ Decides (FieldsRefused request room) r ⌝ }
 {
+    if is_out_of_limits(request) {
+        return true;
+    }
     if request.station == 0 {
         return true;
     }
-    if room < LEAST_ROOM {
-        return true;
-    }
-    is_out_of_limits(request)
+    room < LEAST_ROOM
 }
 
 // Whether the quantity or the bit value is out of limits.
@@ -83,23 +75,24 @@ fn is_out_of_limits(request: Request) -> bool
     ensures { λ r. ⌜ Decides (OutOfLimits request) r ⌝ }
 {
     let function = request.function;
-    let act = act_of(function);
-    let quantity = quantity_for(act, request.operand);
-    let most = frames::most_of(act, width_of(function));
+    match function {
+        Function::ReadBits01 => is_no_quantity(Width::Bit, request.operand),
+        Function::ReadBits02 => is_no_quantity(Width::Bit, request.operand),
+        Function::ReadWords03 => is_no_quantity(Width::Word, request.operand),
+        Function::ReadWords04 => is_no_quantity(Width::Word, request.operand),
+        Function::WriteBit05 => !frames::is_bit_value(request.operand),
+        Function::WriteWord06 => false,
+        Function::WriteBits0F => is_no_quantity(Width::Bit, request.operand),
+        Function::WriteWords10 => is_no_quantity(Width::Word, request.operand),
+    }
+}
+
+// Whether a run can't have so many bits or words: none, or more than the most.
+fn is_no_quantity(width: Width, quantity: u16) -> bool
+    ensures { λ r. ⌜ Decides ((quantity ≡ 0) ⊎ (mostOfARun width < quantity)) r ⌝ }
+{
     if quantity == 0 {
         return true;
     }
-    if most < quantity {
-        return true;
-    }
-    match function {
-        Function::ReadBits01 => false,
-        Function::ReadBits02 => false,
-        Function::ReadWords03 => false,
-        Function::ReadWords04 => false,
-        Function::WriteBit05 => !frames::is_bit_value(request.operand),
-        Function::WriteWord06 => false,
-        Function::WriteBits0F => false,
-        Function::WriteWords10 => false,
-    }
+    frames::most_of(Act::Read, width) < quantity
 }

@@ -2,7 +2,6 @@
 use crate::Request;
 use crate::limits;
 use crate::spare;
-use frames::Act;
 use frames::BYTE_COUNT_AT;
 use frames::DATA_AT;
 use frames::ECHOED;
@@ -15,37 +14,34 @@ ghost use lib.ListN.{length, drop};
 ghost use Rattle.check_word.specs.Frame.{Put};
 ghost use Rattle.registers.specs.Packing.{Filled};
 ghost use Rattle.frames.specs.Limits.{bytesFor};
-ghost use Rattle.master.specs.Requests.{requestHead, dataSize};
+ghost use Rattle.master.specs.Requests.{functionNumber, requestHead, dataSize};
 ghost use Rattle.master.specs.Refusals.{leastRoom, OutOfLimits};
 ghost use Rattle.master.specs.Building.{PackedAgain, RequestPut};
 ghost use Rattle.master.specs.Putting.{RunPut};
 
-// Writes a request, and tells its length.
-pub(crate) fn put_request(request: Request, carried: &[u8], frame: &mut [u8]) -> usize
-    requires { ⌜ (OutOfLimits request → ⊥) × (length (now carried) ≡ dataSize request) × (leastRoom ≤ length (now frame)) ⌝ }
+// Writes a request, and tells its length. `number` is the function's, which the caller has at hand.
+pub(crate) fn put_request(request: Request, number: u8, carried: &[u8], frame: &mut [u8]) -> usize
+    requires { ⌜ (OutOfLimits request → ⊥) × (number ≡ functionNumber (request .function))
+        × (length (now carried) ≡ dataSize request) × (leastRoom ≤ length (now frame)) ⌝ }
     ensures { λ r. ⌜ RequestPut request (now (carried .entry)) (now (frame .entry)) r (now (frame .exit)) ⌝ }
 {
+    put_head(request, number, frame);
+    if carried.len() == 0 {
+        return put_end(ECHOED, frame);
+    }
     let function = request.function;
     let width = limits::width_of(function);
-    put_head(request, frame);
-    match limits::act_of(function) {
-        Act::Read => put_end(ECHOED, frame),
-        Act::WriteOne => put_end(ECHOED, frame),
-        Act::WriteRun => {
-            put_run(width, request.operand, carried, frame);
-            put_end(DATA_AT + carried.len(), frame)
-        }
-    }
+    put_run(width, request.operand, carried, frame);
+    put_end(DATA_AT + carried.len(), frame)
 }
 
 // Station, function, start, and quantity or value.
-fn put_head(request: Request, frame: &mut [u8])
-    requires { ⌜ 6 ≤ length (now frame) ⌝ }
+fn put_head(request: Request, number: u8, frame: &mut [u8])
+    requires { ⌜ (number ≡ functionNumber (request .function)) × (6 ≤ length (now frame)) ⌝ }
     ensures { λ _. ⌜ now (frame .exit) ≡ requestHead request ++ drop 6 (now (frame .entry)) ⌝ }
 {
-    let function = request.function;
     frame[0] = request.station;
-    frame[1] = crate::function_number(function);
+    frame[1] = number;
     frame[2] = (request.start / 256) as u8;
     frame[3] = (request.start % 256) as u8;
     frame[4] = (request.operand / 256) as u8;

@@ -3,7 +3,7 @@
 mod pieces;
 
 ghost use mathlib.Core.Path.{_≡_};
-ghost use Prim.Native.Nat.{_+_, _*_, _≤_};
+ghost use Prim.Native.Nat.{_+_, _*_, _≤_, _<_};
 ghost use Rattle.promise.specs.Promise.{Decides};
 ghost use Rattle.registers.specs.Memory.{wordBits};
 ghost use Rattle.registers.specs.Packing.{bytesForBits, bytesForWords};
@@ -14,10 +14,18 @@ pub const WORD_BITS: usize = 16;
 
 pub const BYTE_BITS: usize = 8;
 
+// Numbers below this one can be added up. The callers' are, and the compiler sees it.
+const SMALL: usize = 65536;
+
 // Whether a run of words lies inside an image of `words` words, and takes no more than `bytes` bytes.
 fn words_fit(words: usize, first: usize, count: usize, bytes: usize) -> bool
     ensures { λ r. ⌜ Decides ((first + count ≤ words) × (bytesForWords count ≤ bytes)) r ⌝ }
 {
+    if first < SMALL {
+        if count < SMALL {
+            return small_words_fit(words, first, count, bytes);
+        }
+    }
     if words < first {
         return false;
     }
@@ -30,11 +38,30 @@ fn words_fit(words: usize, first: usize, count: usize, bytes: usize) -> bool
     true
 }
 
+// The same for small numbers.
+fn small_words_fit(words: usize, first: usize, count: usize, bytes: usize) -> bool
+    requires { ⌜ (first < 65536) × (count < 65536) ⌝ }
+    ensures { λ r. ⌜ Decides ((first + count ≤ words) × (bytesForWords count ≤ bytes)) r ⌝ }
+{
+    if words < first + count {
+        return false;
+    }
+    if bytes < 2 * count {
+        return false;
+    }
+    true
+}
+
 // Whether a run of bits lies inside an image of `words` words, and takes no more than `bytes` bytes. It counts the words that
 // the run touches, since an image may have more bits than a `usize` can count.
 fn bits_fit(words: usize, first: usize, count: usize, bytes: usize) -> bool
     ensures { λ r. ⌜ Decides ((first + count ≤ words * wordBits) × (bytesForBits count ≤ bytes)) r ⌝ }
 {
+    if first < SMALL {
+        if count < SMALL {
+            return small_bits_fit(words, first, count, bytes);
+        }
+    }
     if words < first / WORD_BITS {
         return false;
     }
@@ -44,6 +71,20 @@ fn bits_fit(words: usize, first: usize, count: usize, bytes: usize) -> bool
         return false;
     }
     if bytes < count / BYTE_BITS + (count % BYTE_BITS + 7) / BYTE_BITS {
+        return false;
+    }
+    true
+}
+
+// The same for small numbers.
+fn small_bits_fit(words: usize, first: usize, count: usize, bytes: usize) -> bool
+    requires { ⌜ (first < 65536) × (count < 65536) ⌝ }
+    ensures { λ r. ⌜ Decides ((first + count ≤ words * wordBits) × (bytesForBits count ≤ bytes)) r ⌝ }
+{
+    if words < (first + count + 15) / WORD_BITS {
+        return false;
+    }
+    if bytes < (count + 7) / BYTE_BITS {
         return false;
     }
     true

@@ -31,7 +31,7 @@ use Rattle.slave.specs.declared.decide.Request.{Request}
 use Rattle.slave.specs.declared.decide.Decision.{Decision}
 use Rattle.slave.specs.declared.decide.Decision.the-variants.{Refused, Silent, Exception, Accepted}
 use Rattle.slave.specs.Numbers.{Kind, refused, silence, exception, accepted, refusalNumber, silenceNumber}
-use Rattle.slave.specs.Conditions.{firstAddressed}
+use Rattle.slave.specs.Conditions.{firstAddressed, BreaksARule}
 use Rattle.slave.specs.Table.{Line, FirstDecides, table}
 use Rattle.slave.specs.Answer.{Respond}
 
@@ -101,7 +101,13 @@ DecidedBy station frame words room finding decision =
     (areas : List Area) → FoundOf station frame words finding areas
     → Decided (table station areas words room frame) station frame decision
 
--- the same from a line behind line 3 on, whatever areas have this verdict: whether they keep the rules is asked no more
+-- by one of lines 1 to 3, of whatever areas break a rule: neither room nor frame matters
+abbrev pub DecidedUpToAreas : Station → ℕ → Decision → Type 0
+DecidedUpToAreas station words decision =
+    (areas : List Area) (room : ℕ) (frame : List ℕ) → BreaksARule areas words
+    → Decided (table station areas words room frame) station frame decision
+
+-- from a line behind line 3 on, whatever areas have this verdict: whether they keep the rules is asked no more
 abbrev pub DecidedFor : (Station → List ℕ → List Area → List Line) → Station → List ℕ → Verdict → Decision → Type 0
 DecidedFor lines station frame verdict decision =
     (areas : List Area) → Judged areas (wordsAsked station frame .first) (wordsAsked station frame .count) verdict

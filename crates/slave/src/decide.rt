@@ -18,9 +18,10 @@ use frames::Width;
 use registers::WORD_BITS;
 ghost use mathlib.Core.Path.{_≡_};
 ghost use mathlib.Core.Logic.{_⊎_, _≢_};
-ghost use Prim.Native.Nat.{_<_};
+ghost use Prim.Native.Nat.{_≤_, _<_};
 ghost use Rattle.promise.specs.Promise.{Decides};
 ghost use Rattle.check_word.specs.Frame.{shortest, longest};
+ghost use Rattle.frames.specs.declared.Act.the-variants.{Read, WriteOne, WriteRun};
 ghost use Rattle.frames.specs.declared.Lookup.the-variants.{Found};
 ghost use Rattle.frames.specs.declared.Width.the-variants.{Bit};
 ghost use Rattle.frames.specs.Fields.{functionField, valueField};
@@ -28,8 +29,8 @@ ghost use Rattle.frames.specs.Functions.{functionOf};
 ghost use Rattle.frames.specs.Limits.{quantity, BitValue};
 ghost use Rattle.slave.specs.declared.Counting.the-variants.{JBus};
 ghost use Rattle.slave.specs.declared.State.the-variants.{NotReady, AtTheKeyboard};
-ghost use Rattle.slave.specs.Conditions.{mostImageWords, OutOfLimits, countedFrom0};
-ghost use Rattle.slave.specs.Deciding.{wordsIn, wordsAsked, DecidedBy, DecidedFor, frameLines, messageLines, requestLines, byVerdict, acceptIfARead};
+ghost use Rattle.slave.specs.Conditions.{mostImageWords, countedFrom0};
+ghost use Rattle.slave.specs.Deciding.{wordsIn, wordsAsked, DecidedBy, DecidedUpToAreas, DecidedFor, frameLines, messageLines, requestLines, areaLines, byVerdict, acceptIfARead};
 
 // An accepted request: `count` bits or words from address `first` on, counted from 0.
 pub(crate) struct Request {
@@ -46,30 +47,16 @@ pub(crate) enum Decision {
     Accepted(Request),
 }
 
-// The function that a frame names.
-pub(crate) fn function_in(frame: &[u8]) -> Lookup
-    ensures { λ r. ⌜ r ≡ functionOf (functionField (now (frame .entry))) ⌝ }
-{
-    let function = frames::byte_at(frame, frames::FUNCTION_AT);
-    frames::function_of(function)
-}
-
 // The words that a frame asks for. The areas are asked of them at once, before it is known whether that matters.
 pub(crate) fn words_asked(station: Station, frame: &[u8]) -> Run
     ensures { λ r. ⌜ r ≡ wordsAsked station (now (frame .entry)) ⌝ }
 {
-    words_asked_by(station, function_in(frame), frame)
-}
-
-// The same where the function is known.
-pub(crate) fn words_asked_by(station: Station, function: Lookup, frame: &[u8]) -> Run
-    requires { ⌜ function ≡ functionOf (functionField (now frame)) ⌝ }
-    ensures { λ r. ⌜ r ≡ wordsAsked station (now (frame .entry)) ⌝ }
-{
+    let function = frames::byte_at(frame, frames::FUNCTION_AT);
+    let found = frames::function_of(function);
     let start = frames::number_at(frame, frames::START_AT);
     let counting = station.counting;
     let first = counted_from_0(counting, start);
-    match function {
+    match found {
         Lookup::NotInTable => Run { first: 0, count: 0 },
         Lookup::Found(act, width) => words_in(width, first, frames::quantity_of(act, frame)),
     }
@@ -94,26 +81,46 @@ pub(crate) fn decide(
     finding: Finding,
     words: usize,
     room: usize,
-    function: Lookup,
     frame: &[u8],
 ) -> Decision
-    requires { ⌜ function ≡ functionOf (functionField (now frame)) ⌝ }
     ensures { λ r. ⌜ DecidedBy station (now (frame .entry)) words room finding r ⌝ }
 {
-    let no_image = is_no_image(words);
-    if station.own == 0 {
+    let Finding::Keeps(verdict) = finding else {
+        return up_to_areas(station, words);
+    };
+    if is_no_address(station.own) {
         return Decision::Refused(Refusal::OwnAddress);
     }
-    if no_image {
+    if is_no_image(words) {
         return Decision::Refused(Refusal::Image);
     }
-    let Finding::Keeps(verdict) = finding else {
-        return Decision::Refused(Refusal::Areas);
-    };
     if room < LEAST_ROOM {
         return Decision::Refused(Refusal::ReplyBuffer);
     }
-    decide_frame(station, verdict, function, frame)
+    decide_frame(station, verdict, frame)
+}
+
+// Lines 1 to 3, of areas that break a rule.
+fn up_to_areas(station: Station, words: usize) -> Decision
+    ensures { λ r. ⌜ DecidedUpToAreas station words r ⌝ }
+{
+    if is_no_address(station.own) {
+        return Decision::Refused(Refusal::OwnAddress);
+    }
+    if is_no_image(words) {
+        return Decision::Refused(Refusal::Image);
+    }
+    Decision::Refused(Refusal::Areas)
+}
+
+// Line 1: 0 is no station's address.
+fn is_no_address(own: u8) -> bool
+    ensures { λ r. ⌜ Decides (own ≡ 0) r ⌝ }
+{
+    if own == 0 {
+        return true;
+    }
+    false
 }
 
 // Line 2: an image has 1 to 4,095 words.
@@ -127,8 +134,7 @@ fn is_no_image(words: usize) -> bool
 }
 
 // From line 10 on. Lines 10 and 11 are about the frame as the serial line brings it.
-fn decide_frame(station: Station, verdict: Verdict, function: Lookup, frame: &[u8]) -> Decision
-    requires { ⌜ function ≡ functionOf (functionField (now frame)) ⌝ }
+fn decide_frame(station: Station, verdict: Verdict, frame: &[u8]) -> Decision
     ensures { λ r. ⌜ DecidedFor frameLines station (now (frame .entry)) verdict r ⌝ }
 {
     if is_no_length(frame.len()) {
@@ -137,7 +143,7 @@ fn decide_frame(station: Station, verdict: Verdict, function: Lookup, frame: &[u
     if !check_word::is_right(frame) {
         return Decision::Silent(Silence::CheckWord);
     }
-    decide_message(station, verdict, function, frame)
+    decide_message(station, verdict, frame)
 }
 
 // Line 10: a frame has 4 to 256 bytes.
@@ -151,8 +157,7 @@ fn is_no_length(length: usize) -> bool
 }
 
 // From line 12 on: address, function and data.
-fn decide_message(station: Station, verdict: Verdict, function: Lookup, frame: &[u8]) -> Decision
-    requires { ⌜ function ≡ functionOf (functionField (now frame)) ⌝ }
+fn decide_message(station: Station, verdict: Verdict, frame: &[u8]) -> Decision
     ensures { λ r. ⌜ DecidedFor messageLines station (now (frame .entry)) verdict r ⌝ }
 {
     let address = frames::byte_at(frame, frames::STATION_AT);
@@ -166,7 +171,9 @@ fn decide_message(station: Station, verdict: Verdict, function: Lookup, frame: &
     if is_not_ready(state) {
         return Decision::Exception(Code::NotReady);
     }
-    match function {
+    let function = frames::byte_at(frame, frames::FUNCTION_AT);
+    let found = frames::function_of(function);
+    match found {
         Lookup::NotInTable => Decision::Exception(Code::Function),
         Lookup::Found(act, width) => decide_request(station, verdict, act, width, frame),
     }
@@ -204,7 +211,7 @@ fn is_not_ready(state: State) -> bool
     }
 }
 
-// From line 14 on, of a function in the table.
+// From line 14 on, of a function in the table. Each act has its own lines 14, 15 and E3.
 fn decide_request(
     station: Station,
     verdict: Verdict,
@@ -215,17 +222,77 @@ fn decide_request(
     requires { ⌜ functionOf (functionField (now frame)) ≡ Found act width ⌝ }
     ensures { λ r. ⌜ DecidedFor requestLines station (now (frame .entry)) verdict r ⌝ }
 {
-    let length = frames::request_length(act, frame);
-    if frame.len() != length {
+    match act {
+        Act::Read => decide_read(station, verdict, width, frame),
+        Act::WriteOne => decide_write_one(station, verdict, width, frame),
+        Act::WriteRun => decide_write_run(station, verdict, width, frame),
+    }
+}
+
+fn decide_read(station: Station, verdict: Verdict, width: Width, frame: &[u8]) -> Decision
+    requires { ⌜ functionOf (functionField (now frame)) ≡ Found Read width ⌝ }
+    ensures { λ r. ⌜ DecidedFor requestLines station (now (frame .entry)) verdict r ⌝ }
+{
+    if frame.len() != frames::request_length(Act::Read, frame) {
         return Decision::Silent(Silence::RequestLength);
     }
-    let count = frames::quantity_of(act, frame);
+    let count = frames::quantity_of(Act::Read, frame);
     if count == 0 {
         return Decision::Silent(Silence::NoQuantity);
     }
-    if is_out_of_limits(act, width, count, frame) {
+    if frames::most_of(Act::Read, width) < count {
         return Decision::Exception(Code::Value);
     }
+    decide_start(station, verdict, Act::Read, width, count, frame)
+}
+
+// Its quantity is 1.
+fn decide_write_one(station: Station, verdict: Verdict, width: Width, frame: &[u8]) -> Decision
+    requires { ⌜ functionOf (functionField (now frame)) ≡ Found WriteOne width ⌝ }
+    ensures { λ r. ⌜ DecidedFor requestLines station (now (frame .entry)) verdict r ⌝ }
+{
+    if frame.len() != frames::request_length(Act::WriteOne, frame) {
+        return Decision::Silent(Silence::RequestLength);
+    }
+    if is_wrong_bit_value(width, frame) {
+        return Decision::Exception(Code::Value);
+    }
+    decide_start(station, verdict, Act::WriteOne, width, 1, frame)
+}
+
+fn decide_write_run(station: Station, verdict: Verdict, width: Width, frame: &[u8]) -> Decision
+    requires { ⌜ functionOf (functionField (now frame)) ≡ Found WriteRun width ⌝ }
+    ensures { λ r. ⌜ DecidedFor requestLines station (now (frame .entry)) verdict r ⌝ }
+{
+    if frame.len() != frames::request_length(Act::WriteRun, frame) {
+        return Decision::Silent(Silence::RequestLength);
+    }
+    let count = frames::quantity_of(Act::WriteRun, frame);
+    if count == 0 {
+        return Decision::Silent(Silence::NoQuantity);
+    }
+    if frames::most_of(Act::WriteRun, width) < count {
+        return Decision::Exception(Code::Value);
+    }
+    let byte_count = frames::byte_at(frame, frames::BYTE_COUNT_AT) as usize;
+    if byte_count != frames::bytes_for(width, count) {
+        return Decision::Exception(Code::Value);
+    }
+    decide_start(station, verdict, Act::WriteRun, width, count, frame)
+}
+
+// From line E2 on.
+fn decide_start(
+    station: Station,
+    verdict: Verdict,
+    act: Act,
+    width: Width,
+    count: u16,
+    frame: &[u8],
+) -> Decision
+    requires { ⌜ (functionOf (functionField (now frame)) ≡ Found act width) × (count ≡ quantity act (now frame)) × (1 ≤ count) ⌝ }
+    ensures { λ r. ⌜ DecidedFor areaLines station (now (frame .entry)) verdict r ⌝ }
+{
     let start = frames::number_at(frame, frames::START_AT);
     let counting = station.counting;
     if names_nothing(counting, start) {
@@ -242,24 +309,6 @@ fn decide_request(
             count,
         },
     )
-}
-
-// Line E3: quantity over the most; byte count not the quantity's; bit value neither on nor off.
-fn is_out_of_limits(act: Act, width: Width, count: u16, frame: &[u8]) -> bool
-    requires { ⌜ count ≡ quantity act (now frame) ⌝ }
-    ensures { λ r. ⌜ Decides (OutOfLimits (now (frame .entry)) act width) r ⌝ }
-{
-    match act {
-        Act::Read => frames::most_of(Act::Read, width) < count,
-        Act::WriteOne => is_wrong_bit_value(width, frame),
-        Act::WriteRun => {
-            if frames::most_of(Act::WriteRun, width) < count {
-                return true;
-            }
-            frames::byte_at(frame, frames::BYTE_COUNT_AT) as usize
-                != frames::bytes_for(width, count)
-        }
-    }
 }
 
 // Whether a bit is to be given a value that is neither on nor off.

@@ -9,13 +9,10 @@ use areas::AreaList;
 use areas::Finding;
 use areas::LIST_ENTRIES;
 use frames::Code;
-use frames::Lookup;
 ghost use mathlib.Core.Path.{_≡_};
 ghost use Prim.Native.Nat.{_≤_, min};
 ghost use lib.ListN.{length, take};
 ghost use Rattle.areas.specs.Calls.{listEntries, listed};
-ghost use Rattle.frames.specs.Fields.{functionField};
-ghost use Rattle.frames.specs.Functions.{functionOf};
 ghost use Rattle.slave.specs.Numbers.{refusalNumber, silenceNumber};
 ghost use Rattle.slave.specs.Answer.{toSend, Respond};
 ghost use Rattle.slave.specs.Words.{RespondToWords};
@@ -113,10 +110,9 @@ pub fn respond_to_words(
 ) -> Outcome
     ensures { λ r. ⌜ RespondToWords station (now («area_words» .entry)) (now (frame .entry)) (now (image .entry)) (now (reply .entry)) r (now (image .exit)) (now (reply .exit)) ⌝ }
 {
-    let function = decide::function_in(frame);
-    let run = decide::words_asked_by(station, function, frame);
+    let run = decide::words_asked(station, frame);
     let finding = areas::survey_words(area_words, image.len(), run);
-    answer_by(station, finding, function, frame, image, reply)
+    answer(station, finding, frame, image, reply)
 }
 
 // The same for a list of areas by value.
@@ -170,23 +166,7 @@ fn answer(
     requires { ⌜ FoundOfSome station (now frame) (length (now image)) finding ⌝ }
     ensures { λ r. ⌜ AnsweredBy station finding (now (frame .entry)) (now (image .entry)) (now (reply .entry)) r (now (image .exit)) (now (reply .exit)) ⌝ }
 {
-    let function = decide::function_in(frame);
-    answer_by(station, finding, function, frame, image, reply)
-}
-
-// The same where the function is known.
-fn answer_by(
-    station: Station,
-    finding: Finding,
-    function: Lookup,
-    frame: &[u8],
-    image: &mut [u16],
-    reply: &mut [u8],
-) -> Outcome
-    requires { ⌜ FoundOfSome station (now frame) (length (now image)) finding × (function ≡ functionOf (functionField (now frame))) ⌝ }
-    ensures { λ r. ⌜ AnsweredBy station finding (now (frame .entry)) (now (image .entry)) (now (reply .entry)) r (now (image .exit)) (now (reply .exit)) ⌝ }
-{
-    let decision = decide::decide(station, finding, image.len(), reply.len(), function, frame);
+    let decision = decide::decide(station, finding, image.len(), reply.len(), frame);
     carry::carry_out(decision, station, frame, image, reply)
 }
 

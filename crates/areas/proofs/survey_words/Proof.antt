@@ -45,8 +45,8 @@ returns-2 : tie.Need-returns-2 Inv-loop μ-loop
 returns-2 c = broken _ _ (λ areas e kept.
     omega (arith, ap length e, words-length areas, c .if2 .taken, kept .at-most-sixteen))
 
-begin-requires : tie.Need-begin-requires Inv-loop μ-loop
-begin-requires c κs = search needs
+begin-at-requires : tie.Need-begin-at-requires Inv-loop μ-loop
+begin-at-requires c κs = search needs
 
 loop-holds : tie.Need-loop-holds Inv-loop μ-loop
 loop-holds c = (
@@ -111,7 +111,7 @@ looked : (c : tie.After-look Inv-loop μ-loop) → (areas : List Area)
     → areaWords areas ≡ c .before .before .before .before .before .before .before .before .before .before .before .before .before .before .args .area-words .now
     → (run : Run)
     → Sought areas (c .before .before .before .before .before .before .before .before .before .before .before .before .before .before .args .words) run 0
-    (c .before .before .before .before .before .before .before .before .before .before .begin .result)
+    (c .before .before .before .before .before .before .before .before .before .before .begin-at .result)
     → Sought areas (c .before .before .before .before .before .before .before .before .before .before .before .before .before .before .args .words) run
     (c .before .before .before .before .before .before .before .before .before .loop .i + 1) (c .look .result)
 looked c areas e run so =
@@ -134,7 +134,7 @@ returns-4 c =
     let begun = at-loop .before in
     let run = begun .before .before .before .before .args .run in
     broken _ _ (λ areas e.
-    looked look areas e run (begun .begin .ensures areas (as-many _ _ (at-loop .loop .inv .1) areas e)) .broken
+    looked look areas e run (begun .begin-at .ensures areas (as-many _ _ (at-loop .loop .inv .1) areas e)) .broken
     (not-true _ (c .if3 .taken)))
 
 add-i : tie.Need-add-i Inv-loop μ-loop
@@ -173,7 +173,7 @@ returns-5 c =
     λ areas. elim [
       | inl e ↦ c .finding .ensures areas _ (start .args .run) (at-loop .loop .i)
           (λ few. sym (as-many area-words (at-loop .loop .i) all areas e))
-          (inv .3 areas e (start .args .run) (begun .begin .ensures areas (as-many area-words _ (inv .1) areas e)))
+          (inv .3 areas e (start .args .run) (begun .begin-at .ensures areas (as-many area-words _ (inv .1) areas e)))
       | inr (none, breaks) ↦ absurd (of-a-list area-words (at-loop .loop .i) all (inv .2) none)
     ]
 
@@ -185,7 +185,7 @@ survey-words-spec =
     μ-loop
     returns
     returns-2
-    begin-requires
+    begin-at-requires
     loop-holds
     mul-at
     add-access

@@ -15,7 +15,7 @@ use Rattle.master.proofs.build.Tie as tie
 -- ---- past both tests no part of line 70 applies
 
 abbrev asked : tie.Else2 → tie.Start
-asked c = c .before .before .before .before .before .before
+asked c = c .before .before .before .before .before .before .before
 
 fields-kept : (c : tie.Else2) → FieldsRefused (asked c .args .request) (length (asked c .args .frame .now)) → ⊥
 fields-kept c =
@@ -25,6 +25,9 @@ fields-kept c =
 
 size-kept : (c : tie.Else2) → length (asked c .args .carried .now) ≡ dataSize (asked c .args .request)
 size-kept c = omega (arith, c .before .data-size .ensures)
+
+function-number-requires : tie.Need-function-number-requires
+function-number-requires c κs = search needs
 
 is-refused-requires : tie.Need-is-refused-requires
 is-refused-requires c κs = search needs
@@ -44,7 +47,8 @@ put-request-requires : tie.Need-put-request-requires
 put-request-requires c κs =
     let kept = fields-kept (c .before) in
     let room : length (asked (c .before) .args .frame .now) < leastRoom → ⊥ = λ h. kept (inr (inr h)) in
-    (λ out. kept (inl out), size-kept (c .before), omega arith)
+    let number = c .before .before .before .before .before .function-number in
+    (λ out. kept (inl out), number .ensures, size-kept (c .before), omega arith)
 
 same-length : tie.Need-same-length
 same-length c = search needs
@@ -58,6 +62,7 @@ pub build-spec : {M : Type 1} → statement M
 build-spec =
     tie.close
     (tie.spec
+    function-number-requires
     is-refused-requires
     returns
     data-size-requires

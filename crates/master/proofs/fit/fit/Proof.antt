@@ -12,9 +12,6 @@ use Rattle.master.proofs.fit.fit.Tie as tie
 function-number-requires : tie.Need-function-number-requires
 function-number-requires c κs = search needs
 
-act-of-requires : tie.Need-act-of-requires
-act-of-requires c κs = search needs
-
 byte-at-requires : tie.Need-byte-at-requires
 byte-at-requires c κs = search needs
 
@@ -30,7 +27,7 @@ top-bit-set-requires c κs = search needs
 fit-exception-requires : tie.Need-fit-exception-requires
 fit-exception-requires c κs =
     let answered = c .before .before .before .before in
-    let number = answered .before .before .before .function-number .ensures in
+    let number = answered .before .before .function-number .ensures in
     (search needs, omega (arith, answered .byte-at2 .ensures, c .before .top-bit-set .ensures, ap topBitSet number))
 
 returns-2 : tie.Need-returns-2
@@ -40,11 +37,14 @@ returns-3 : tie.Need-returns-3
 returns-3 c =
     let set = c .before .before in
     let answered = set .before .before .before in
-    let number = answered .before .before .before .function-number .ensures in (
+    let number = answered .before .before .function-number .ensures in (
       refl,
       other-function _ _ (omega (arith, answered .byte-at2 .ensures, number))
           (omega (arith, answered .byte-at2 .ensures, set .top-bit-set .ensures, ap topBitSet number)),
     )
+
+act-of-requires : tie.Need-act-of-requires
+act-of-requires c κs = search needs
 
 enum-told : tie.Need-enum-told
 enum-told c = search needs
@@ -57,7 +57,7 @@ enum-told-2 c = search needs
 
 fit-write-requires : tie.Need-fit-write-requires
 fit-write-requires c κs =
-    let act = c .before .before .before .before .before .before .before .before .before .act-of in
+    let act = c .before .before .act-of in
     (search needs, search needs, writes-only (inl (sym (act .ensures) ∙ c .enum-told2 .given .1)))
 
 enum-told-3 : tie.Need-enum-told-3
@@ -65,7 +65,7 @@ enum-told-3 c = search needs
 
 fit-write-requires-2 : tie.Need-fit-write-requires-2
 fit-write-requires-2 c κs =
-    let act = c .before .before .before .before .before .before .before .before .before .act-of in
+    let act = c .before .before .act-of in
     (search needs, search needs, writes-only (inr (sym (act .ensures) ∙ c .enum-told3 .given .1)))
 
 returns-4 : tie.Need-returns-4
@@ -82,7 +82,6 @@ fit-spec =
     tie.close
     (tie.spec
     function-number-requires
-    act-of-requires
     byte-at-requires
     byte-at-requires-2
     returns
@@ -90,6 +89,7 @@ fit-spec =
     fit-exception-requires
     returns-2
     returns-3
+    act-of-requires
     enum-told
     fit-read-requires
     enum-told-2

@@ -1,73 +1,76 @@
 -- `is_out_of_limits` meets its contract.
 -- Assumes nothing.
-use mathlib.Core.Path.{_≡_, sym, ap, _∙_}
-use mathlib.Core.Logic.{inl, inr}
+use mathlib.Core.Path.{_≡_, refl, sym, ap, _∙_}
+use mathlib.Core.Logic.{_⊎_, inl, inr, ⊎-elim}
+use mathlib.Core.Bool.{Bool}
+use Prim.Native.Nat.{_<_}
 use native.Mathlib.Omega.{arith}
-use Rattle.promise.proofs.Promise.{decides-not}
-use Rattle.frames.specs.Limits.{most, BitValue}
+use Rattle.promise.specs.Promise.{Decides}
+use Rattle.promise.proofs.Promise.{decides-map, decides-not}
+use Rattle.frames.specs.declared.Act.the-variants.{WriteOne}
+use Rattle.frames.specs.Limits.{mostOfARun, most, BitValue}
 use Rattle.master.specs.declared.Request.{Request}
 use Rattle.master.specs.declared.Function.{Function}
 use Rattle.master.specs.declared.Function.the-variants.{WriteBit05}
-use Rattle.master.specs.Requests.{functionNumber, act, width, quantity}
+use Rattle.master.specs.Requests.{functionNumber, actOf, widthOf, act, width, quantityFor, quantity}
 use Rattle.master.specs.Refusals.{OutOfLimits}
 use borrow.Author.Needs.{needs}
 use Rattle.master.proofs.limits.is_out_of_limits.Statement.{statement}
 use Rattle.master.proofs.limits.is_out_of_limits.Tie as tie
 
-abbrev asked : tie.After-most-of → Request
-asked c = c .before .before .before .before .args .request
+module _ (request : Request) {function : Function} (is : request .function ≡ function) where
+  other-function : (functionNumber function ≡ functionNumber WriteBit05 → ⊥) → request .function ≡ WriteBit05 → ⊥
+  other-function differs five = differs (ap functionNumber (sym is ∙ five))
 
--- what the code counts, and the most that it may be
-counted : (c : tie.After-most-of) → c .before .before .quantity-for .result ≡ quantity (asked c)
-counted c = rw (← c .before .before .before .act-of .ensures) (c .before .before .quantity-for .ensures)
+  -- of a run: its quantity alone
+  run-limits : (r : Bool) → (functionNumber function ≡ functionNumber WriteBit05 → ⊥)
+      → quantityFor (actOf function) (request .operand) ≡ request .operand
+      → most (actOf function) (widthOf function) ≡ mostOfARun (widthOf function)
+      → Decides ((request .operand ≡ 0) ⊎ (mostOfARun (widthOf function) < request .operand)) r → Decides (OutOfLimits request) r
+  run-limits r differs counted limit =
+      let counts : quantity request ≡ request .operand = rw is counted in
+      let at-most : most (act request) (width request) ≡ mostOfARun (widthOf function) = rw is limit in
+      decides-map _ _ r
+      (⊎-elim (λ none. inl (omega (arith, none, counts))) (λ more. inr (inl (omega (arith, more, counts, at-most)))))
+      (elim [
+        | inl none ↦ inl (omega (arith, none, counts))
+        | inr (inl more) ↦ inr (omega (arith, more, counts, at-most))
+        | inr (inr wrong) ↦ absurd (other-function differs (wrong .0))
+      ])
 
-at-most : (c : tie.After-most-of) → c .most-of .result ≡ most (act (asked c)) (width (asked c))
-at-most c = rw (← c .before .before .before .act-of .ensures, ← c .before .width-of .ensures) (c .most-of .ensures)
-
--- past both tests there is only the bit value of 05
-only-05 : (c : tie.Else2) → let request = asked (c .before .before) in
-    OutOfLimits request → (request .function ≡ WriteBit05) × (BitValue (request .operand) → ⊥)
-only-05 c =
-    let measured = c .before .before in
-    elim [
-      | inl none ↦ absurd (omega (arith, counted measured))
-      | inr (inl more) ↦ absurd (omega (arith, counted measured, at-most measured))
-      | inr (inr wrong) ↦ wrong
-    ]
-
-other-function : (c : tie.Else2) {function : Function} → let request = asked (c .before .before) in
-    request .function ≡ function → (functionNumber function ≡ functionNumber WriteBit05 → ⊥) → OutOfLimits request → ⊥
-other-function c is differs out = differs (ap functionNumber (sym is ∙ only-05 c out .0))
-
-act-of-requires : tie.Need-act-of-requires
-act-of-requires c κs = search needs
-
-quantity-for-requires : tie.Need-quantity-for-requires
-quantity-for-requires c κs = search needs
-
-width-of-requires : tie.Need-width-of-requires
-width-of-requires c κs = search needs
-
-most-of-requires : tie.Need-most-of-requires
-most-of-requires c κs = search needs
-
-returns : tie.Need-returns
-returns c = inl (omega (arith, counted (c .before)))
-
-returns-2 : tie.Need-returns-2
-returns-2 c = inr (inl (omega (arith, c .if2 .taken, counted (c .before .before), at-most (c .before .before))))
+  -- of one bit or word: the bit value of 05 alone
+  only-05 : actOf function ≡ WriteOne → OutOfLimits request → (request .function ≡ WriteBit05) × (BitValue (request .operand) → ⊥)
+  only-05 one =
+      let writes : act request ≡ WriteOne = rw is one in
+      elim [
+        | inl none ↦ absurd (omega (arith, rw writes at none))
+        | inr (inl more) ↦ absurd (omega (arith, rw writes at more))
+        | inr (inr wrong) ↦ wrong
+      ]
 
 enum-told : tie.Need-enum-told
 enum-told c = search needs
 
+is-no-quantity-requires : tie.Need-is-no-quantity-requires
+is-no-quantity-requires c κs = search needs
+
 enum-told-2 : tie.Need-enum-told-2
 enum-told-2 c = search needs
+
+is-no-quantity-requires-2 : tie.Need-is-no-quantity-requires-2
+is-no-quantity-requires-2 c κs = search needs
 
 enum-told-3 : tie.Need-enum-told-3
 enum-told-3 c = search needs
 
+is-no-quantity-requires-3 : tie.Need-is-no-quantity-requires-3
+is-no-quantity-requires-3 c κs = search needs
+
 enum-told-4 : tie.Need-enum-told-4
 enum-told-4 c = search needs
+
+is-no-quantity-requires-4 : tie.Need-is-no-quantity-requires-4
+is-no-quantity-requires-4 c κs = search needs
 
 enum-told-5 : tie.Need-enum-told-5
 enum-told-5 c = search needs
@@ -81,60 +84,83 @@ enum-told-6 c = search needs
 enum-told-7 : tie.Need-enum-told-7
 enum-told-7 c = search needs
 
+is-no-quantity-requires-5 : tie.Need-is-no-quantity-requires-5
+is-no-quantity-requires-5 c κs = search needs
+
 enum-told-8 : tie.Need-enum-told-8
 enum-told-8 c = search needs
 
+is-no-quantity-requires-6 : tie.Need-is-no-quantity-requires-6
+is-no-quantity-requires-6 c κs = search needs
+
+returns : tie.Need-returns
+returns c =
+    run-limits (c .before .before .before .args .request) (c .before .enum-told .given .1) (c .is-no-quantity .result)
+    (λ e. omega arith) refl refl (c .is-no-quantity .ensures)
+
+returns-2 : tie.Need-returns-2
+returns-2 c =
+    run-limits (c .before .before .before .args .request) (c .before .enum-told2 .given .1) (c .is-no-quantity2 .result)
+    (λ e. omega arith) refl refl (c .is-no-quantity2 .ensures)
+
 returns-3 : tie.Need-returns-3
-returns-3 c = other-function (c .before .before) (c .enum-told .given .1) (λ e. omega arith)
+returns-3 c =
+    run-limits (c .before .before .before .args .request) (c .before .enum-told3 .given .1) (c .is-no-quantity3 .result)
+    (λ e. omega arith) refl refl (c .is-no-quantity3 .ensures)
 
 returns-4 : tie.Need-returns-4
-returns-4 c = other-function (c .before .before) (c .enum-told2 .given .1) (λ e. omega arith)
+returns-4 c =
+    run-limits (c .before .before .before .args .request) (c .before .enum-told4 .given .1) (c .is-no-quantity4 .result)
+    (λ e. omega arith) refl refl (c .is-no-quantity4 .ensures)
 
 returns-5 : tie.Need-returns-5
-returns-5 c = other-function (c .before .before) (c .enum-told3 .given .1) (λ e. omega arith)
+returns-5 c =
+    let request = c .before .before .before .args .request in
+    let told = c .before .enum-told5 .given .1 in
+    let value = c .is-bit-value in
+    decides-not _ _ (value .result) (λ right out. only-05 request told refl out .1 right) (λ wrong. inr (inr (told, wrong)))
+    (value .ensures)
 
 returns-6 : tie.Need-returns-6
-returns-6 c = other-function (c .before .before) (c .enum-told4 .given .1) (λ e. omega arith)
+returns-6 c =
+    let request = c .before .before .args .request in
+    let told = c .enum-told6 .given .1 in
+    λ out. other-function request told (λ e. omega arith) (only-05 request told refl out .0)
 
 returns-7 : tie.Need-returns-7
 returns-7 c =
-    let value = c .is-bit-value in
-    decides-not _ _ (value .result) (λ right out. only-05 (c .before .before .before) out .1 right)
-    (λ wrong. inr (inr (c .before .enum-told5 .given .1, wrong))) (value .ensures)
+    run-limits (c .before .before .before .args .request) (c .before .enum-told7 .given .1) (c .is-no-quantity5 .result)
+    (λ e. omega arith) refl refl (c .is-no-quantity5 .ensures)
 
 returns-8 : tie.Need-returns-8
-returns-8 c = other-function (c .before .before) (c .enum-told6 .given .1) (λ e. omega arith)
-
-returns-9 : tie.Need-returns-9
-returns-9 c = other-function (c .before .before) (c .enum-told7 .given .1) (λ e. omega arith)
-
-returns-10 : tie.Need-returns-10
-returns-10 c = other-function (c .before .before) (c .enum-told8 .given .1) (λ e. omega arith)
+returns-8 c =
+    run-limits (c .before .before .before .args .request) (c .before .enum-told8 .given .1) (c .is-no-quantity6 .result)
+    (λ e. omega arith) refl refl (c .is-no-quantity6 .ensures)
 
 pub is-out-of-limits-spec : {M : Type 1} → statement M
 is-out-of-limits-spec =
     tie.close
     (tie.spec
-    act-of-requires
-    quantity-for-requires
-    width-of-requires
-    most-of-requires
-    returns
-    returns-2
     enum-told
+    is-no-quantity-requires
     enum-told-2
+    is-no-quantity-requires-2
     enum-told-3
+    is-no-quantity-requires-3
     enum-told-4
+    is-no-quantity-requires-4
     enum-told-5
     is-bit-value-requires
     enum-told-6
     enum-told-7
+    is-no-quantity-requires-5
     enum-told-8
+    is-no-quantity-requires-6
+    returns
+    returns-2
     returns-3
     returns-4
     returns-5
     returns-6
     returns-7
-    returns-8
-    returns-9
-    returns-10)
+    returns-8)

@@ -11,9 +11,6 @@ use Rattle.master.proofs.put.put_head.Tie as tie
 slice-write-frame : tie.Need-slice-write-frame
 slice-write-frame c = search needs
 
-function-number-requires : tie.Need-function-number-requires
-function-number-requires c κs = search needs
-
 slice-write-frame-2 : tie.Need-slice-write-frame-2
 slice-write-frame-2 c = simp length-set (omega arith)
 
@@ -46,17 +43,15 @@ same-length c = search needs
 
 returns : tie.Need-returns
 returns c =
-    let start = c .before .before .before .before .before .before in
-    let number = c .before .before .before .before .function-number in
-    rw (← number .ensures)
-    (sets-eq (start .args .request .station ∷ number .result ∷ _ ∷ _ ∷ _ ∷ _ ∷ []) (start .args .frame .now) 0 (start .pre))
+    let start = c .before .before .before .before in
+    let a = start .args in
+    rw (← start .pre .0) (sets-eq (a .request .station ∷ a .number ∷ _ ∷ _ ∷ _ ∷ _ ∷ []) (a .frame .now) 0 (start .pre .1))
 
 pub put-head-spec : {M : Type 1} → statement M
 put-head-spec =
     tie.close
     (tie.spec
     slice-write-frame
-    function-number-requires
     slice-write-frame-2
     cast-frame
     slice-write-frame-3

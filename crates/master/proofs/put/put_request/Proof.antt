@@ -9,10 +9,12 @@ use lib.ListN.{length, take, drop}
 use lib.Seq.{drop-drop}
 use Rattle.check_word.specs.Frame.{framed, Put}
 use Rattle.frames.specs.declared.Act.{Act}
-use Rattle.frames.specs.declared.Act.the-variants.{WriteRun}
+use Rattle.frames.specs.declared.Act.the-variants.{Read, WriteOne, WriteRun}
+use Rattle.frames.specs.declared.Width.{Width}
+use Rattle.frames.specs.declared.Width.the-variants.{Bit, Word}
 use Rattle.frames.specs.Limits.{bytesFor}
 use Rattle.master.specs.declared.Request.{Request}
-use Rattle.master.specs.Requests.{act, width, requestHead}
+use Rattle.master.specs.Requests.{act, width, quantityFor, dataSizeFor, requestHead}
 use Rattle.master.specs.Building.{Following, RequestPut}
 use Rattle.master.specs.Putting.{RunPut}
 use Rattle.master.proofs.SpareBits.{packed-size}
@@ -49,124 +51,104 @@ module _ (request : Request) (carried before : List ℕ) where
       ∙ ap₂ (λ (front rest : List ℕ). front ++ counted ++ rest) (ap (take 6) is)
       (sym (drop-drop n 7 head) ∙ ap (drop n) (ap (drop 7) is ∙ drop-drop 1 6 before) ∙ drop-drop n 7 before)
 
+-- ---- what carries data
+
+-- within the limits, without data, nothing follows the head
+none-follows : (act : Act) (width : Width) (operand : ℕ) (carried : List ℕ) → 1 ≤ quantityFor act operand
+    → dataSizeFor act width operand ≡ 0 → Following act width operand carried []
+none-follows Read width operand carried some none = refl
+none-follows WriteOne width operand carried some none = refl
+none-follows WriteRun Bit operand carried some none = absurd (omega arith)
+none-follows WriteRun Word operand carried some none = absurd (omega arith)
+
+-- and only 0F and 10 have data
+carries : (act : Act) (width : Width) (operand : ℕ) → (dataSizeFor act width operand ≡ 0 → ⊥) → act ≡ WriteRun
+carries Read width operand some = absurd (some refl)
+carries WriteOne width operand some = absurd (some refl)
+carries WriteRun width operand some = refl
+
 -- ---- behind the head
 
-abbrev asked : tie.After-act-of → tie.Start
-asked c = c .before .before .before .before .before .before .before .before
+abbrev asked : tie.After-slice-known2 → tie.Start
+asked c = c .before .before .before .before .before .before
 
-does : (c : tie.After-act-of) {it : Act} → c .act-of .result ≡ it → act (asked c .args .request) ≡ it
-does c e = sym (c .act-of .ensures) ∙ e
+runs : (c : tie.Else1) → act (asked (c .before) .args .request) ≡ WriteRun
+runs c =
+    let start = asked (c .before) in
+    carries _ (width (start .args .request)) (start .args .request .operand) (λ none. c .if1 .left (start .pre .2 ∙ none))
 
 -- what is known of the data of 0F and 10
-run-known : (c : tie.After-act-of) → c .act-of .result ≡ WriteRun → let a = asked c .args in
+run-known : (c : tie.Else1) → let a = asked (c .before) .args in
     let size = bytesFor (width (a .request)) (a .request .operand) in
     (1 ≤ a .request .operand) × (length (a .carried .now) ≡ size) × (size ≤ 160)
-run-known c e =
-    let limits = rw (does c e) at (quantity-in-limits (asked c .args .request) (asked c .pre .0)) in
-    (limits .0, rw (does c e) at (asked c .pre .1), limits .1)
-
--- without data the check word stands behind the head
-head-put : (c : tie.After-act-of) {it : Act} (told : ℕ) (after : List ℕ) → c .act-of .result ≡ it → let a = asked c .args in
-    Following it (width (a .request)) (a .request .operand) (a .carried .now) []
-    → (told ≡ 8) × Put 6 (c .before .before .before .put-head .last .1 .0) true after
-    → RequestPut (a .request) (a .carried .now) (a .frame .now) told after
-head-put c told after is none put =
-    let a = asked c .args in
-    request-put (a .request) (a .carried .now) (a .frame .now) 6 told [] _ after (rw (does c is) none) refl
-    (c .before .before .before .put-head .ensures) put
-
-width-of-requires : tie.Need-width-of-requires
-width-of-requires c κs = search needs
+run-known c =
+    let start = asked (c .before) in
+    let limits = rw (runs c) at (quantity-in-limits (start .args .request) (start .pre .0)) in
+    (limits .0, rw (runs c) at (start .pre .2), limits .1)
 
 put-head-requires : tie.Need-put-head-requires
 put-head-requires c κs = search needs
 
-act-of-requires : tie.Need-act-of-requires
-act-of-requires c κs = search needs
-
-enum-told : tie.Need-enum-told
-enum-told c = search needs
-
 put-end-requires : tie.Need-put-end-requires
 put-end-requires c κs = search needs
-
-enum-told-2 : tie.Need-enum-told-2
-enum-told-2 c = search needs
-
-put-end-requires-2 : tie.Need-put-end-requires-2
-put-end-requires-2 c κs = search needs
-
-enum-told-3 : tie.Need-enum-told-3
-enum-told-3 c = search needs
-
-put-run-requires : tie.Need-put-run-requires
-put-run-requires c κs =
-    let headed = c .before .before .before in
-    let known = run-known headed (c .before .enum-told3 .given .1) in
-    rw (headed .before .before .before .before .before .width-of .ensures)
-    (known .0, known .1, omega (arith, known), omega (arith, known))
-
-add-put-end : tie.Need-add-put-end
-add-put-end c = search needs
-
-put-end-requires-3 : tie.Need-put-end-requires-3
-put-end-requires-3 c κs =
-    let told = c .before .before .before .before .before in
-    omega (arith, run-known (told .before .before) (told .enum-told3 .given .1))
 
 same-length : tie.Need-same-length
 same-length c = search needs
 
 returns : tie.Need-returns
 returns c =
-    let told = c .before .before .before .before in
-    head-put (told .before .before) _ _ (told .enum-told .given .1) refl (c .before .before .put-end .ensures)
+    let none = c .before .before .before .before in
+    let start = asked (none .before) in
+    let request = start .args .request in
+    let xs = start .args .carried .now in
+    request-put request xs (start .args .frame .now) 6 _ [] _ _
+    (none-follows (act request) (width request) (request .operand) xs (quantity-in-limits request (start .pre .0) .0)
+    (sym (start .pre .2) ∙ none .if1 .taken))
+    refl (none .before .before .before .put-head .ensures) (c .before .before .put-end .ensures)
+
+width-of-requires : tie.Need-width-of-requires
+width-of-requires c κs = search needs
+
+put-run-requires : tie.Need-put-run-requires
+put-run-requires c κs =
+    let known = run-known (c .before .before) in
+    rw (c .before .width-of .ensures) (known .0, known .1, omega (arith, known), omega (arith, known))
+
+add-put-end : tie.Need-add-put-end
+add-put-end c = search needs
+
+put-end-requires-2 : tie.Need-put-end-requires-2
+put-end-requires-2 c κs = omega (arith, run-known (c .before .before .before .before .before .before))
 
 same-length-2 : tie.Need-same-length-2
 same-length-2 c = search needs
 
 returns-2 : tie.Need-returns-2
 returns-2 c =
-    let told = c .before .before .before .before in
-    head-put (told .before .before) _ _ (told .enum-told2 .given .1) refl (c .before .before .put-end2 .ensures)
-
-same-length-3 : tie.Need-same-length-3
-same-length-3 c = search needs
-
-returns-3 : tie.Need-returns-3
-returns-3 c =
-    let told = c .before .before .before .before .before .before .before .before in
-    let headed = told .before .before in
-    let writes = told .enum-told3 .given .1 in
-    let request = asked headed .args .request in
-    let xs = asked headed .args .carried .now in
-    let frame = asked headed .args .frame .now in
-    let width-is = headed .before .before .before .before .before .width-of .ensures in
-    let run = rw width-is at (c .before .before .before .before .before .before .put-run .ensures) in
+    let put = c .before .before .before .before .before .before in
+    let left = put .before .before .before in
+    let start = asked (left .before) in
+    let request = start .args .request in
+    let xs = start .args .carried .now in
+    let frame = start .args .frame .now in
+    let run = rw (put .before .before .width-of .ensures) at (put .put-run .ensures) in
     let size = packed-size (width request) (request .operand) xs (run .packed) (run .are-packed) in
     request-put request xs frame (7 + length xs) _ (bytesFor (width request) (request .operand) ∷ run .packed) _ _
-    (rw (does headed writes) (run .packed, run .are-packed, refl)) (omega (arith, size, run-known headed writes))
-    (run-behind request xs frame _ _ (headed .before .before .before .put-head .ensures) run)
-    (c .before .before .put-end3 .ensures)
+    (rw (runs left) (run .packed, run .are-packed, refl)) (omega (arith, size, run-known left))
+    (run-behind request xs frame _ _ (left .before .before .before .put-head .ensures) run)
+    (c .before .before .put-end2 .ensures)
 
 pub put-request-spec : {M : Type 1} → statement M
 put-request-spec =
     tie.close
     (tie.spec
-    width-of-requires
     put-head-requires
-    act-of-requires
-    enum-told
     put-end-requires
-    enum-told-2
-    put-end-requires-2
-    enum-told-3
-    put-run-requires
-    add-put-end
-    put-end-requires-3
     same-length
     returns
+    width-of-requires
+    put-run-requires
+    add-put-end
+    put-end-requires-2
     same-length-2
-    returns-2
-    same-length-3
-    returns-3)
+    returns-2)

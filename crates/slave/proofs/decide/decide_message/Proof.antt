@@ -1,7 +1,8 @@
 -- `decide_message` meets its contract.
 -- Assumes nothing.
-use mathlib.Core.Path.{refl, sym, _∙_}
+use mathlib.Core.Path.{refl, sym, ap, _∙_}
 use native.Mathlib.Omega.{arith}
+use Rattle.frames.specs.Functions.{functionOf}
 use Rattle.slave.proofs.Cases.{lookupPlace, apart}
 use Rattle.slave.proofs.Lines.{here, past, here-if, past-if}
 use borrow.Author.Needs.{needs}
@@ -47,46 +48,54 @@ returns-3 c =
     (past-if (keyboard .result) (keyboard .ensures) (away .if2 .left)
     (here-if (not-ready .result) (not-ready .ensures) (c .if3 .taken) refl tt))
 
+byte-at-requires-2 : tie.Need-byte-at-requires-2
+byte-at-requires-2 c κs = search needs
+
+function-of-requires : tie.Need-function-of-requires
+function-of-requires c κs = search needs
+
 enum-told : tie.Need-enum-told
 enum-told c = search needs
 
-enum-known-function : tie.Need-enum-known-function
-enum-known-function c = search needs
-
--- what is known past line E4
-abbrev start : tie.Else3 → tie.Start
-start c = c .before .before .before .before .before .before .before .before
+enum-known-found : tie.Need-enum-known-found
+enum-known-found c = search needs
 
 decide-request-requires : tie.Need-decide-request-requires
-decide-request-requires c κs = sym (start (c .before .before .before) .pre) ∙ c .before .function .given .1
+decide-request-requires c κs =
+    let read = c .before .before .before in
+    let lookup = sym (read .function-of .ensures ∙ ap functionOf (read .before .byte-at2 .ensures)) in
+    lookup ∙ c .before .found .given .1
 
 returns-4 : tie.Need-returns-4
 returns-4 c =
-    let ready = c .before .before in
+    let read = c .before .before in
+    let ready = read .before .before in
     let not-ready = ready .before .is-not-ready in
     let away = ready .before .before in
     let keyboard = away .before .is-at-the-keyboard in
     let ours = away .before .before in
     let anothers = ours .before .is-anothers in
     let another = rw (ours .before .before .byte-at .ensures) at (anothers .ensures) in
+    let lookup = sym (read .function-of .ensures ∙ ap functionOf (read .before .byte-at2 .ensures)) in
     λ areas judged. past-if (anothers .result) another (ours .if1 .left)
     (past-if (keyboard .result) (keyboard .ensures) (away .if2 .left)
-    (past-if (not-ready .result) (not-ready .ensures) (ready .if3 .left) (here (sym (start ready .pre) ∙ c .enum-told .given .1) refl tt)))
+    (past-if (not-ready .result) (not-ready .ensures) (ready .if3 .left) (here (lookup ∙ c .enum-told .given .1) refl tt)))
 
 returns-5 : tie.Need-returns-5
 returns-5 c =
-    let ready = c .before .before .before .before in
+    let read = c .before .before .before .before in
+    let ready = read .before .before in
     let not-ready = ready .before .is-not-ready in
     let away = ready .before .before in
     let keyboard = away .before .is-at-the-keyboard in
     let ours = away .before .before in
     let anothers = ours .before .is-anothers in
     let another = rw (ours .before .before .byte-at .ensures) at (anothers .ensures) in
-    let found = sym (start ready .pre) ∙ c .before .before .function .given .1 in
+    let lookup = sym (read .function-of .ensures ∙ ap functionOf (read .before .byte-at2 .ensures)) in
     λ areas judged. past-if (anothers .result) another (ours .if1 .left)
     (past-if (keyboard .result) (keyboard .ensures) (away .if2 .left)
     (past-if (not-ready .result) (not-ready .ensures) (ready .if3 .left)
-    (past (λ none. apart lookupPlace found none (omega arith)) (c .decide-request .ensures areas judged))))
+    (past (λ none. apart lookupPlace (lookup ∙ c .before .before .found .given .1) none (omega arith)) (c .decide-request .ensures areas judged))))
 
 pub decide-message-spec : {M : Type 1} → statement M
 decide-message-spec =
@@ -99,8 +108,10 @@ decide-message-spec =
     returns-2
     is-not-ready-requires
     returns-3
+    byte-at-requires-2
+    function-of-requires
     enum-told
-    enum-known-function
+    enum-known-found
     decide-request-requires
     returns-4
     returns-5)

@@ -1,31 +1,19 @@
--- `begin` meets its contract: of no areas, nothing is known but their number.
+-- `begin_at` meets its contract: of no areas, nothing is known but their number.
 -- Assumes nothing.
 use mathlib.Core.Path.{refl}
 use mathlib.Core.Bool.{false≢true}
 use native.Mathlib.Omega.{arith}
 use borrow.Author.Needs.{needs}
 use borrow.Author.Tests.{leb-true, leb-false}
-use Rattle.areas.proofs.search.Search.begin.Statement.{statement}
-use Rattle.areas.proofs.search.Search.begin.Tie as tie
+use Rattle.areas.proofs.search.Search.begin_at.Statement.{statement}
+use Rattle.areas.proofs.search.Search.begin_at.Tie as tie
 
-cast-t4 : tie.Need-cast-t4
-cast-t4 c = search needs
-
-cast-t5 : tie.Need-cast-t5
-cast-t5 c = search needs
-
-cast-t6 : tie.Need-cast-t6
-cast-t6 c = search needs
-
-add-t7 : tie.Need-add-t7
-add-t7 c = search needs
-
-cast-t9 : tie.Need-cast-t9
-cast-t9 c = search needs
+add-t8 : tie.Need-add-t8
+add-t8 c = search needs
 
 returns : tie.Need-returns
 returns c =
-    let len = c .before .before .before .before .args .len in
+    let len = c .args .len in
     λ areas long. record {
       image = refl;
       starts = refl;
@@ -43,5 +31,5 @@ returns c =
       };
     }
 
-pub begin-spec : {M : Type 1} → statement M
-begin-spec = tie.close (tie.spec cast-t4 cast-t5 cast-t6 add-t7 cast-t9 returns)
+pub begin-at-spec : {M : Type 1} → statement M
+begin-at-spec = tie.close (tie.spec add-t8 returns)
