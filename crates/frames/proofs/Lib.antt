@@ -1,3 +1,4 @@
+pub mod Acts
 pub mod Codes
 mod Contracts
 pub mod Laws

@@ -2,6 +2,7 @@ mod Numbers
 pub mod Lines
 mod Body
 pub mod Framed
+mod Putting
 pub mod SpareBits
 mod Within
 pub mod Fits

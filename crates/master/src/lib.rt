@@ -6,9 +6,12 @@ mod limits;
 mod put;
 mod spare;
 
+use frames::Act;
 use frames::Code;
 ghost use mathlib.Core.Path.{_≡_};
-ghost use Rattle.master.specs.Requests.{functionNumber};
+ghost use mathlib.Core.Logic.{_≢_};
+ghost use Rattle.frames.specs.declared.Act.the-variants.{WriteRun};
+ghost use Rattle.master.specs.Requests.{functionNumber, act};
 ghost use Rattle.master.specs.Refusals.{refusalNumber};
 ghost use Rattle.master.specs.Building.{Build};
 ghost use Rattle.master.specs.Reading.{ReadReply};
@@ -72,13 +75,39 @@ pub fn build(request: Request, carried: &[u8], frame: &mut [u8]) -> Built
 {
     let function = request.function;
     let number = function_number(function);
+    match limits::act_of(function) {
+        Act::Read => build_plain(request, number, carried, frame),
+        Act::WriteOne => build_plain(request, number, carried, frame),
+        Act::WriteRun => build_run(request, number, carried, frame),
+    }
+}
+
+// Of 01 to 06: there are no data. `number` is the function's, which the caller has at hand.
+fn build_plain(request: Request, number: u8, carried: &[u8], frame: &mut [u8]) -> Built
+    requires { ⌜ (number ≡ functionNumber (request .function)) × (act request ≢ WriteRun) ⌝ }
+    ensures { λ r. ⌜ Build request (now (carried .entry)) (now (frame .entry)) r (now (frame .exit)) ⌝ }
+{
+    if limits::is_refused(request, frame.len()) {
+        return Built::Refused(Refusal::Request);
+    }
+    if carried.len() != 0 {
+        return Built::Refused(Refusal::Request);
+    }
+    Built::Frame(put::put_plain(request, number, frame))
+}
+
+// Of 0F and 10.
+fn build_run(request: Request, number: u8, carried: &[u8], frame: &mut [u8]) -> Built
+    requires { ⌜ (number ≡ functionNumber (request .function)) × (act request ≡ WriteRun) ⌝ }
+    ensures { λ r. ⌜ Build request (now (carried .entry)) (now (frame .entry)) r (now (frame .exit)) ⌝ }
+{
     if limits::is_refused(request, frame.len()) {
         return Built::Refused(Refusal::Request);
     }
     if carried.len() != limits::data_size(request) {
         return Built::Refused(Refusal::Request);
     }
-    Built::Frame(put::put_request(request, number, carried, frame))
+    Built::Frame(put::put_with_data(request, number, carried, frame))
 }
 
 // Reads a reply beside the request that it answers. The bytes of the buffer beyond the data keep their content; where no data are

@@ -7,30 +7,38 @@ use frames::DATA_AT;
 use frames::ECHOED;
 use frames::Width;
 ghost use mathlib.Core.Path.{_≡_};
+ghost use mathlib.Core.Logic.{_≢_};
 ghost use mathlib.Core.List.{_++_};
 ghost use mathlib.Core.Bool.{true};
 ghost use Prim.Native.Nat.{_+_, _≤_, _<_};
 ghost use lib.ListN.{length, drop};
 ghost use Rattle.check_word.specs.Frame.{Put};
 ghost use Rattle.registers.specs.Packing.{Filled};
+ghost use Rattle.frames.specs.declared.Act.the-variants.{WriteRun};
 ghost use Rattle.frames.specs.Limits.{bytesFor};
-ghost use Rattle.master.specs.Requests.{functionNumber, requestHead, dataSize};
+ghost use Rattle.master.specs.Requests.{functionNumber, act, requestHead, dataSize};
 ghost use Rattle.master.specs.Refusals.{leastRoom, OutOfLimits};
 ghost use Rattle.master.specs.Building.{PackedAgain, RequestPut};
-ghost use Rattle.master.specs.Putting.{RunPut};
+ghost use Rattle.master.specs.Putting.{RunPut, PlainPut};
 
-// Writes a request, and tells its length. `number` is the function's, which the caller has at hand.
-pub(crate) fn put_request(request: Request, number: u8, carried: &[u8], frame: &mut [u8]) -> usize
-    requires { ⌜ (OutOfLimits request → ⊥) × (number ≡ functionNumber (request .function))
+// Writes a request without data, and tells its length.
+pub(crate) fn put_plain(request: Request, number: u8, frame: &mut [u8]) -> usize
+    requires { ⌜ (number ≡ functionNumber (request .function)) × (act request ≢ WriteRun) × (leastRoom ≤ length (now frame)) ⌝ }
+    ensures { λ r. ⌜ PlainPut request (now (frame .entry)) r (now (frame .exit)) ⌝ }
+{
+    put_head(request, number, frame);
+    put_end(ECHOED, frame)
+}
+
+// Writes a request with its data, and tells its length.
+pub(crate) fn put_with_data(request: Request, number: u8, carried: &[u8], frame: &mut [u8]) -> usize
+    requires { ⌜ (number ≡ functionNumber (request .function)) × (act request ≡ WriteRun) × (OutOfLimits request → ⊥)
         × (length (now carried) ≡ dataSize request) × (leastRoom ≤ length (now frame)) ⌝ }
     ensures { λ r. ⌜ RequestPut request (now (carried .entry)) (now (frame .entry)) r (now (frame .exit)) ⌝ }
 {
-    put_head(request, number, frame);
-    if carried.len() == 0 {
-        return put_end(ECHOED, frame);
-    }
     let function = request.function;
     let width = limits::width_of(function);
+    put_head(request, number, frame);
     put_run(width, request.operand, carried, frame);
     put_end(DATA_AT + carried.len(), frame)
 }

@@ -1,72 +1,73 @@
 -- `build` meets its contract.
 -- Assumes nothing.
-use mathlib.Core.Path.{_≡_, refl}
-use mathlib.Core.Logic.{inl, inr, ⊎-elim}
-use Prim.Native.Nat.{_<_}
+use mathlib.Core.Path.{sym, _∙_}
 use native.Mathlib.Omega.{arith}
-use lib.ListN.{length}
-use Rattle.promise.proofs.Promise.{if-taken, if-left}
-use Rattle.master.specs.Requests.{dataSize}
-use Rattle.master.specs.Refusals.{leastRoom, FieldsRefused}
+use Rattle.frames.proofs.Acts.{acts-apart}
 use borrow.Author.Needs.{needs}
 use Rattle.master.proofs.build.Statement.{statement}
 use Rattle.master.proofs.build.Tie as tie
 
--- ---- past both tests no part of line 70 applies
-
-abbrev asked : tie.Else2 → tie.Start
-asked c = c .before .before .before .before .before .before .before
-
-fields-kept : (c : tie.Else2) → FieldsRefused (asked c .args .request) (length (asked c .args .frame .now)) → ⊥
-fields-kept c =
-    let allowed = c .before .before in
-    let refused = allowed .before .is-refused in
-    if-left _ (refused .result) (refused .ensures) (allowed .if1 .left)
-
-size-kept : (c : tie.Else2) → length (asked c .args .carried .now) ≡ dataSize (asked c .args .request)
-size-kept c = omega (arith, c .before .data-size .ensures)
-
 function-number-requires : tie.Need-function-number-requires
 function-number-requires c κs = search needs
 
-is-refused-requires : tie.Need-is-refused-requires
-is-refused-requires c κs = search needs
+act-of-requires : tie.Need-act-of-requires
+act-of-requires c κs = search needs
 
-returns : tie.Need-returns
-returns c =
-    let refused = c .before .is-refused in
-    (inl (inr (if-taken _ (refused .result) (refused .ensures) (c .if1 .taken)), refl), refl)
+enum-told : tie.Need-enum-told
+enum-told c = search needs
 
-data-size-requires : tie.Need-data-size-requires
-data-size-requires c κs = search needs
+build-plain-requires : tie.Need-build-plain-requires
+build-plain-requires c κs =
+    let told = sym (c .before .before .before .act-of .ensures) ∙ c .before .enum-told .given .1 in
+    (c .before .before .before .before .function-number .ensures, acts-apart told (omega arith))
 
-returns-2 : tie.Need-returns-2
-returns-2 c = (inl (inl (omega (arith, c .before .data-size .ensures)), refl), refl)
+enum-told-2 : tie.Need-enum-told-2
+enum-told-2 c = search needs
 
-put-request-requires : tie.Need-put-request-requires
-put-request-requires c κs =
-    let kept = fields-kept (c .before) in
-    let room : length (asked (c .before) .args .frame .now) < leastRoom → ⊥ = λ h. kept (inr (inr h)) in
-    let number = c .before .before .before .before .before .function-number in
-    (λ out. kept (inl out), number .ensures, size-kept (c .before), omega arith)
+build-plain-requires-2 : tie.Need-build-plain-requires-2
+build-plain-requires-2 c κs =
+    let told = sym (c .before .before .before .act-of .ensures) ∙ c .before .enum-told2 .given .1 in
+    (c .before .before .before .before .function-number .ensures, acts-apart told (omega arith))
+
+enum-told-3 : tie.Need-enum-told-3
+enum-told-3 c = search needs
+
+build-run-requires : tie.Need-build-run-requires
+build-run-requires c κs = search needs
 
 same-length : tie.Need-same-length
 same-length c = search needs
 
+returns : tie.Need-returns
+returns c = search needs
+
+same-length-2 : tie.Need-same-length-2
+same-length-2 c = search needs
+
+returns-2 : tie.Need-returns-2
+returns-2 c = search needs
+
+same-length-3 : tie.Need-same-length-3
+same-length-3 c = search needs
+
 returns-3 : tie.Need-returns-3
-returns-3 c =
-    let left = c .before .before .before .before in
-    ((⊎-elim (λ other. other (size-kept left)) (fields-kept left), tt), c .before .before .put-request .ensures)
+returns-3 c = search needs
 
 pub build-spec : {M : Type 1} → statement M
 build-spec =
     tie.close
     (tie.spec
     function-number-requires
-    is-refused-requires
-    returns
-    data-size-requires
-    returns-2
-    put-request-requires
+    act-of-requires
+    enum-told
+    build-plain-requires
+    enum-told-2
+    build-plain-requires-2
+    enum-told-3
+    build-run-requires
     same-length
+    returns
+    same-length-2
+    returns-2
+    same-length-3
     returns-3)
