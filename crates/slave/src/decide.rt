@@ -117,10 +117,7 @@ fn up_to_areas(station: Station, words: usize) -> Decision
 fn is_no_address(own: u8) -> bool
     ensures { λ r. ⌜ Decides (own ≡ 0) r ⌝ }
 {
-    if own == 0 {
-        return true;
-    }
-    false
+    own == 0
 }
 
 // Line 2: an image has 1 to 4,095 words.

@@ -1,0 +1,24 @@
+-- `small_words_fit` meets its contract.
+-- Assumes nothing.
+use borrow.Author.Needs.{needs}
+use Rattle.registers.proofs.small_words_fit.Statement.{statement}
+use Rattle.registers.proofs.small_words_fit.Tie as tie
+
+add-if1 : tie.Need-add-if1
+add-if1 c = search needs
+
+returns : tie.Need-returns
+returns c = search needs
+
+mul-if2 : tie.Need-mul-if2
+mul-if2 c = search needs
+
+returns-2 : tie.Need-returns-2
+returns-2 c = search needs
+
+returns-3 : tie.Need-returns-3
+returns-3 c = search needs
+
+pub small-words-fit-spec : {M : Type 1} → statement M
+small-words-fit-spec =
+    tie.close (tie.spec add-if1 returns mul-if2 returns-2 returns-3)
