@@ -10,7 +10,7 @@ use lib.Dec.{lit<}
 use lib.Pow.{split, pow-pos}
 use borrow.Author.Tests.{ne-eqb}
 use Rattle.check_word.specs.CheckWord.{polynomial, lowBit, corrected, step, steps}
-use Rattle.check_word.proofs.Xor.{digit, digit-low, low-xor, half-xor, xor-regroup}
+use Rattle.check_word.proofs.Xor.{digit, digit-low, low-xor, half-xor, xor-regroup, xor-swap}
 
 -- ---- additive
 
@@ -61,6 +61,14 @@ steps-split n x =
     ∙ steps-xor n (x / 2 ^ n * 2 ^ n) (x % 2 ^ n)
     ∙ ap (λ (y : ℕ). bitXor y (steps n (x % 2 ^ n))) (steps-shifted n (x / 2 ^ n))
     ∙ xor-comm (x / 2 ^ n) (steps n (x % 2 ^ n))
+
+-- n steps of a sum: the n low bits go through them with what is put in, and the others move down
+pub steps-mixed : (n w x : ℕ) → steps n (bitXor w x) ≡ bitXor (steps n (bitXor (w % 2 ^ n) x)) (w / 2 ^ n)
+steps-mixed n w x =
+    steps-xor n w x
+    ∙ ap (λ (y : ℕ). bitXor y (steps n x)) (steps-split n w)
+    ∙ xor-swap (steps n (w % 2 ^ n)) (w / 2 ^ n) (steps n x)
+    ∙ ap (λ (y : ℕ). bitXor y (w / 2 ^ n)) (sym (steps-xor n (w % 2 ^ n) x))
 
 -- ---- sixteen bits
 

@@ -13,8 +13,8 @@ const START: u32 = 0xffff;
 fn add_byte(word: u32, byte: u8) -> u32
     ensures { λ r. ⌜ r ≡ addByte word byte ⌝ }
 {
-    let mixed = word ^ (byte as u32);
-    (table::entry((mixed % 256) as u8) as u32) ^ (mixed / 256)
+    let mixed = (word % 256) ^ (byte as u32);
+    (table::entry(mixed) as u32) ^ (word / 256)
 }
 
 // The check word of the bytes. Until it is returned it stands in 32 bits, for speed; the upper sixteen are 0.

@@ -1,14 +1,16 @@
 // The table of 256 check words.
 ghost use mathlib.Core.Path.{_≡_};
+ghost use Prim.Native.Nat.{_<_};
 ghost use Rattle.check_word.specs.Back.{stepBack, stepsBack};
 
 // Entry i is i put through the eight steps: eight steps back lead from it to i.
 // Constant arms are compiled to one look-up in read-only memory; a constant array, indexed by a variable, would be written onto the stack
 // at each use. The arms count from 0x100, since places from 0 on would be compiled as signed bytes.
-pub(crate) fn entry(i: u8) -> u16
+pub(crate) fn entry(i: u32) -> u16
+    requires { ⌜ i < 256 ⌝ }
     ensures { λ r. ⌜ stepsBack 8 r ≡ i ⌝ }
 {
-    let place = 0x100 + i as u16;
+    let place = 0x100 + i;
     match place {
         0x100 => 0x0000,
         0x101 => 0xc0c1,
@@ -267,7 +269,7 @@ pub(crate) fn entry(i: u8) -> u16
         0x1fe => 0x8081,
         0x1ff => 0x4040,
         // No byte has another place.
-        _ => worked_out(i),
+        _ => worked_out(i as u8),
     }
 }
 

@@ -17,7 +17,7 @@ ghost use Rattle.frames.specs.Fields.{stationField, functionField};
 ghost use Rattle.frames.specs.declared.Act.the-variants as Act;
 ghost use Rattle.frames.specs.Limits.{bytesFor};
 ghost use Rattle.frames.specs.Exceptions.{topBitSet};
-ghost use Rattle.master.specs.Requests.{functionNumber, act};
+ghost use Rattle.master.specs.Requests.{functionNumber, widthOf, act};
 ghost use Rattle.master.specs.Refusals.{OutOfLimits};
 ghost use Rattle.master.specs.Reading.{SpareBits0, Left};
 ghost use Rattle.master.specs.Fitting.{FitFound, CodeFound, Takeable};
@@ -49,7 +49,10 @@ pub(crate) fn fit(request: Request, reply: &[u8]) -> Reading
         return Reading::Refused(Refusal::Reply);
     }
     match limits::act_of(function) {
-        Act::Read => fit_read(request, reply),
+        Act::Read => match limits::width_of(function) {
+            Width::Bit => fit_read(Width::Bit, request, reply),
+            Width::Word => fit_read(Width::Word, request, reply),
+        },
         Act::WriteOne => fit_write(request, reply),
         Act::WriteRun => fit_write(request, reply),
     }
@@ -105,15 +108,13 @@ fn fit_write(request: Request, reply: &[u8]) -> Reading
     Reading::Written
 }
 
-// Of a reply from this station to this function, which reads: it has the bytes of the quantity.
-fn fit_read(request: Request, reply: &[u8]) -> Reading
+// Of a reply from this station to this function, which reads what has this width: it has the bytes of the quantity.
+fn fit_read(width: Width, request: Request, reply: &[u8]) -> Reading
     requires { ⌜ (stationField (now reply) ≡ request .station)
         × (functionField (now reply) ≡ functionNumber (request .function)) × (act request ≡ Act.Read)
-        × (OutOfLimits request → ⊥) ⌝ }
+        × (width ≡ widthOf (request .function)) × (OutOfLimits request → ⊥) ⌝ }
     ensures { λ r. ⌜ FitFound request (now (reply .entry)) r ⌝ }
 {
-    let function = request.function;
-    let width = limits::width_of(function);
     let bytes = frames::bytes_for(width, request.operand);
     if reply.len() != frames::reply_length(Act::Read, width, request.operand) {
         return Reading::Refused(Refusal::Reply);

@@ -8,10 +8,11 @@ mod spare;
 
 use frames::Act;
 use frames::Code;
+use frames::Width;
 ghost use mathlib.Core.Path.{_≡_};
 ghost use mathlib.Core.Logic.{_≢_};
 ghost use Rattle.frames.specs.declared.Act.the-variants.{WriteRun};
-ghost use Rattle.master.specs.Requests.{functionNumber, act};
+ghost use Rattle.master.specs.Requests.{functionNumber, widthOf, act};
 ghost use Rattle.master.specs.Refusals.{refusalNumber};
 ghost use Rattle.master.specs.Building.{Build};
 ghost use Rattle.master.specs.Reading.{ReadReply};
@@ -78,7 +79,10 @@ pub fn build(request: Request, carried: &[u8], frame: &mut [u8]) -> Built
     match limits::act_of(function) {
         Act::Read => build_plain(request, number, carried, frame),
         Act::WriteOne => build_plain(request, number, carried, frame),
-        Act::WriteRun => build_run(request, number, carried, frame),
+        Act::WriteRun => match limits::width_of(function) {
+            Width::Bit => build_run(Width::Bit, request, number, carried, frame),
+            Width::Word => build_run(Width::Word, request, number, carried, frame),
+        },
     }
 }
 
@@ -96,18 +100,18 @@ fn build_plain(request: Request, number: u8, carried: &[u8], frame: &mut [u8]) -
     Built::Frame(put::put_plain(request, number, frame))
 }
 
-// Of 0F and 10.
-fn build_run(request: Request, number: u8, carried: &[u8], frame: &mut [u8]) -> Built
-    requires { ⌜ (number ≡ functionNumber (request .function)) × (act request ≡ WriteRun) ⌝ }
+// Of 0F and 10, with the width of what they write.
+fn build_run(width: Width, request: Request, number: u8, carried: &[u8], frame: &mut [u8]) -> Built
+    requires { ⌜ (number ≡ functionNumber (request .function)) × (act request ≡ WriteRun) × (width ≡ widthOf (request .function)) ⌝ }
     ensures { λ r. ⌜ Build request (now (carried .entry)) (now (frame .entry)) r (now (frame .exit)) ⌝ }
 {
-    if limits::is_refused(request, frame.len()) {
+    if limits::is_run_refused(width, request, frame.len()) {
         return Built::Refused(Refusal::Request);
     }
-    if carried.len() != limits::data_size(request) {
+    if carried.len() != frames::bytes_for(width, request.operand) {
         return Built::Refused(Refusal::Request);
     }
-    Built::Frame(put::put_with_data(request, number, carried, frame))
+    Built::Frame(put::put_with_data(width, request, number, carried, frame))
 }
 
 // Reads a reply beside the request that it answers. The bytes of the buffer beyond the data keep their content; where no data are

@@ -9,9 +9,10 @@ ghost use mathlib.Core.Path.{_≡_};
 ghost use mathlib.Core.Logic.{_⊎_};
 ghost use Prim.Native.Nat.{_<_};
 ghost use Rattle.promise.specs.Promise.{Decides};
+ghost use Rattle.frames.specs.declared.Act.the-variants.{WriteRun};
 ghost use Rattle.frames.specs.Limits.{mostOfARun};
-ghost use Rattle.master.specs.Requests.{actOf, widthOf, dataSize};
-ghost use Rattle.master.specs.Refusals.{OutOfLimits, FieldsRefused};
+ghost use Rattle.master.specs.Requests.{actOf, widthOf, act};
+ghost use Rattle.master.specs.Refusals.{leastRoom, OutOfLimits, FieldsRefused};
 
 // What a function does.
 pub(crate) fn act_of(function: Function) -> Act
@@ -45,18 +46,6 @@ pub(crate) fn width_of(function: Function) -> Width
     }
 }
 
-// How many bytes of data a request is built with.
-pub(crate) fn data_size(request: Request) -> usize
-    ensures { λ r. ⌜ r ≡ dataSize request ⌝ }
-{
-    let function = request.function;
-    match act_of(function) {
-        Act::Read => 0,
-        Act::WriteOne => 0,
-        Act::WriteRun => frames::bytes_for(width_of(function), request.operand),
-    }
-}
-
 // Refusal 70, but for the data's size.
 pub(crate) fn is_refused(request: Request, room: usize) -> bool
     ensures { λ r. ⌜ Decides (FieldsRefused request room) r ⌝ }
@@ -64,7 +53,25 @@ pub(crate) fn is_refused(request: Request, room: usize) -> bool
     if is_out_of_limits(request) {
         return true;
     }
-    if request.station == 0 {
+    lacks_station_or_room(request.station, room)
+}
+
+// The same of 0F and 10, with the width of what they write.
+pub(crate) fn is_run_refused(width: Width, request: Request, room: usize) -> bool
+    requires { ⌜ (act request ≡ WriteRun) × (width ≡ widthOf (request .function)) ⌝ }
+    ensures { λ r. ⌜ Decides (FieldsRefused request room) r ⌝ }
+{
+    if is_no_quantity(width, request.operand) {
+        return true;
+    }
+    lacks_station_or_room(request.station, room)
+}
+
+// Whether the station is none, or the lent buffer under 256 bytes.
+fn lacks_station_or_room(station: u8, room: usize) -> bool
+    ensures { λ r. ⌜ Decides ((station ≡ 0) ⊎ (room < leastRoom)) r ⌝ }
+{
+    if station == 0 {
         return true;
     }
     room < LEAST_ROOM

@@ -1,6 +1,5 @@
 // A request that is not refused, written over the start of the lent buffer.
 use crate::Request;
-use crate::limits;
 use crate::spare;
 use frames::BYTE_COUNT_AT;
 use frames::DATA_AT;
@@ -16,7 +15,7 @@ ghost use Rattle.check_word.specs.Frame.{Put};
 ghost use Rattle.registers.specs.Packing.{Filled};
 ghost use Rattle.frames.specs.declared.Act.the-variants.{WriteRun};
 ghost use Rattle.frames.specs.Limits.{bytesFor};
-ghost use Rattle.master.specs.Requests.{functionNumber, act, requestHead, dataSize};
+ghost use Rattle.master.specs.Requests.{functionNumber, widthOf, act, requestHead, dataSize};
 ghost use Rattle.master.specs.Refusals.{leastRoom, OutOfLimits};
 ghost use Rattle.master.specs.Building.{PackedAgain, RequestPut};
 ghost use Rattle.master.specs.Putting.{RunPut, PlainPut};
@@ -31,13 +30,18 @@ pub(crate) fn put_plain(request: Request, number: u8, frame: &mut [u8]) -> usize
 }
 
 // Writes a request with its data, and tells its length.
-pub(crate) fn put_with_data(request: Request, number: u8, carried: &[u8], frame: &mut [u8]) -> usize
+pub(crate) fn put_with_data(
+    width: Width,
+    request: Request,
+    number: u8,
+    carried: &[u8],
+    frame: &mut [u8],
+) -> usize
     requires { ⌜ (number ≡ functionNumber (request .function)) × (act request ≡ WriteRun) × (OutOfLimits request → ⊥)
+        × (width ≡ widthOf (request .function))
         × (length (now carried) ≡ dataSize request) × (leastRoom ≤ length (now frame)) ⌝ }
     ensures { λ r. ⌜ RequestPut request (now (carried .entry)) (now (frame .entry)) r (now (frame .exit)) ⌝ }
 {
-    let function = request.function;
-    let width = limits::width_of(function);
     put_head(request, number, frame);
     put_run(width, request.operand, carried, frame);
     put_end(DATA_AT + carried.len(), frame)

@@ -32,8 +32,20 @@ build-plain-requires-2 c κs =
 enum-told-3 : tie.Need-enum-told-3
 enum-told-3 c = search needs
 
+width-of-requires : tie.Need-width-of-requires
+width-of-requires c κs = search needs
+
+enum-told-4 : tie.Need-enum-told-4
+enum-told-4 c = search needs
+
 build-run-requires : tie.Need-build-run-requires
 build-run-requires c κs = search needs
+
+enum-told-5 : tie.Need-enum-told-5
+enum-told-5 c = search needs
+
+build-run-requires-2 : tie.Need-build-run-requires-2
+build-run-requires-2 c κs = search needs
 
 same-length : tie.Need-same-length
 same-length c = search needs
@@ -53,6 +65,12 @@ same-length-3 c = search needs
 returns-3 : tie.Need-returns-3
 returns-3 c = search needs
 
+same-length-4 : tie.Need-same-length-4
+same-length-4 c = search needs
+
+returns-4 : tie.Need-returns-4
+returns-4 c = search needs
+
 pub build-spec : {M : Type 1} → statement M
 build-spec =
     tie.close
@@ -64,10 +82,16 @@ build-spec =
     enum-told-2
     build-plain-requires-2
     enum-told-3
+    width-of-requires
+    enum-told-4
     build-run-requires
+    enum-told-5
+    build-run-requires-2
     same-length
     returns
     same-length-2
     returns-2
     same-length-3
-    returns-3)
+    returns-3
+    same-length-4
+    returns-4)

@@ -49,24 +49,40 @@ act-of-requires c κs = search needs
 enum-told : tie.Need-enum-told
 enum-told c = search needs
 
-fit-read-requires : tie.Need-fit-read-requires
-fit-read-requires c κs = search needs
+width-of-requires : tie.Need-width-of-requires
+width-of-requires c κs = search needs
 
 enum-told-2 : tie.Need-enum-told-2
 enum-told-2 c = search needs
 
-fit-write-requires : tie.Need-fit-write-requires
-fit-write-requires c κs =
-    let act = c .before .before .act-of in
-    (search needs, search needs, writes-only (inl (sym (act .ensures) ∙ c .enum-told2 .given .1)))
+fit-read-requires : tie.Need-fit-read-requires
+fit-read-requires c κs =
+    let width = c .before .before .width-of in
+    (search needs, search needs, search needs, sym (c .enum-told2 .given .1) ∙ width .ensures, search needs)
 
 enum-told-3 : tie.Need-enum-told-3
 enum-told-3 c = search needs
 
+fit-read-requires-2 : tie.Need-fit-read-requires-2
+fit-read-requires-2 c κs =
+    let width = c .before .before .width-of in
+    (search needs, search needs, search needs, sym (c .enum-told3 .given .1) ∙ width .ensures, search needs)
+
+enum-told-4 : tie.Need-enum-told-4
+enum-told-4 c = search needs
+
+fit-write-requires : tie.Need-fit-write-requires
+fit-write-requires c κs =
+    let act = c .before .before .act-of in
+    (search needs, search needs, writes-only (inl (sym (act .ensures) ∙ c .enum-told4 .given .1)))
+
+enum-told-5 : tie.Need-enum-told-5
+enum-told-5 c = search needs
+
 fit-write-requires-2 : tie.Need-fit-write-requires-2
 fit-write-requires-2 c κs =
     let act = c .before .before .act-of in
-    (search needs, search needs, writes-only (inr (sym (act .ensures) ∙ c .enum-told3 .given .1)))
+    (search needs, search needs, writes-only (inr (sym (act .ensures) ∙ c .enum-told5 .given .1)))
 
 returns-4 : tie.Need-returns-4
 returns-4 c = search needs
@@ -76,6 +92,9 @@ returns-5 c = search needs
 
 returns-6 : tie.Need-returns-6
 returns-6 c = search needs
+
+returns-7 : tie.Need-returns-7
+returns-7 c = search needs
 
 pub fit-spec : {M : Type 1} → statement M
 fit-spec =
@@ -91,11 +110,16 @@ fit-spec =
     returns-3
     act-of-requires
     enum-told
-    fit-read-requires
+    width-of-requires
     enum-told-2
-    fit-write-requires
+    fit-read-requires
     enum-told-3
+    fit-read-requires-2
+    enum-told-4
+    fit-write-requires
+    enum-told-5
     fit-write-requires-2
     returns-4
     returns-5
-    returns-6)
+    returns-6
+    returns-7)

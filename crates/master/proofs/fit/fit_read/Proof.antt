@@ -10,9 +10,6 @@ use borrow.Author.Needs.{needs}
 use Rattle.master.proofs.fit.fit_read.Statement.{statement}
 use Rattle.master.proofs.fit.fit_read.Tie as tie
 
-width-of-requires : tie.Need-width-of-requires
-width-of-requires c κs = search needs
-
 bytes-for-requires : tie.Need-bytes-for-requires
 bytes-for-requires c κs = search needs
 
@@ -21,9 +18,8 @@ reply-length-requires c κs = search needs
 
 returns : tie.Need-returns
 returns c =
-    let width = c .before .before .before in
-    let start = width .before .before in
-    let asked = rw (width .width-of .ensures) at (c .before .reply-length .ensures) in
+    let start = c .before .before .before .before in
+    let asked = rw (start .pre .3) at (c .before .reply-length .ensures) in
     let reads = start .pre .2 in
     (refl, no-read _ _ (start .pre .1) reads (λ n fits. let long = rw reads at (fits .long) in omega (arith, long, asked)))
 
@@ -36,8 +32,8 @@ cast-if2 c = search needs
 returns-2 : tie.Need-returns-2
 returns-2 c =
     let bytes = c .before .before .before .before in
-    let start = bytes .before .before .before in
-    let size = rw (bytes .before .width-of .ensures) at (bytes .bytes-for .ensures) in
+    let start = bytes .before .before in
+    let size = rw (start .pre .3) at (bytes .bytes-for .ensures) in
     let byte = c .before .byte-at in (
       refl,
       no-read _ _ (start .pre .1) (start .pre .2)
@@ -59,20 +55,19 @@ part-are-spare-bits-0-end c = search needs
 are-spare-bits-0-requires : tie.Need-are-spare-bits-0-requires
 are-spare-bits-0-requires c κs =
     let bytes = c .before .before .before .before .before in
-    let start = bytes .before .before .before in
-    (read-limits (start .args .request) (start .pre .2) (start .pre .3) .0, simp (length-take, length-drop) (omega arith))
+    let start = bytes .before .before in
+    (read-limits (start .args .request) (start .pre .2) (start .pre .4) .0, simp (length-take, length-drop) (omega arith))
 
 returns-3 : tie.Need-returns-3
 returns-3 c =
     let spare = c .before .are-spare-bits-0 in
     let bytes = c .before .before .before .before .before .before .before in
-    let width = bytes .before .width-of in
-    let start = bytes .before .before .before in
-    let size = rw (width .ensures) at (bytes .bytes-for .ensures) in (
+    let start = bytes .before .before in
+    let size = rw (start .pre .3) at (bytes .bytes-for .ensures) in (
       refl,
       no-read _ _ (start .pre .1) (start .pre .2) (λ n fits.
           let all : (3 + bytes .bytes-for .result) - 3 ≡ n = omega (arith, fits .size) in
-          failed _ (spare .result) (rw (all, width .ensures) at (spare .ensures)) (c .if3 .taken) (fits .spare)),
+          failed _ (spare .result) (rw (all, start .pre .3) at (spare .ensures)) (c .if3 .taken) (fits .spare)),
     )
 
 returns-4 : tie.Need-returns-4
@@ -80,17 +75,16 @@ returns-4 c =
     let spare = c .before .are-spare-bits-0 in
     let byte = c .before .before .before .before in
     let bytes = byte .before .before .before in
-    let width = bytes .before .width-of in
-    let start = bytes .before .before .before in
-    let asked = rw (width .ensures) at (byte .before .before .reply-length .ensures) in
+    let start = bytes .before .before in
+    let asked = rw (start .pre .3) at (byte .before .before .reply-length .ensures) in
     let all : (3 + bytes .bytes-for .result) - 3 ≡ bytes .bytes-for .result = omega arith in
     record {
       reads = start .pre .2;
       station = start .pre .0;
       function = start .pre .1;
-      size = rw (width .ensures) at (bytes .bytes-for .ensures);
+      size = rw (start .pre .3) at (bytes .bytes-for .ensures);
       byte-count = omega (arith, byte .byte-at .ensures);
-      spare = passed _ (spare .result) (rw (all, width .ensures) at (spare .ensures)) (c .if3 .left);
+      spare = passed _ (spare .result) (rw (all, start .pre .3) at (spare .ensures)) (c .if3 .left);
       long = rw (start .pre .2) (omega (arith, asked));
     }
 
@@ -98,7 +92,6 @@ pub fit-read-spec : {M : Type 1} → statement M
 fit-read-spec =
     tie.close
     (tie.spec
-    width-of-requires
     bytes-for-requires
     reply-length-requires
     returns

@@ -1,12 +1,12 @@
 -- `is_out_of_limits` meets its contract.
 -- Assumes nothing.
 use mathlib.Core.Path.{_≡_, refl, sym, ap, _∙_}
-use mathlib.Core.Logic.{_⊎_, inl, inr, ⊎-elim}
+use mathlib.Core.Logic.{_⊎_, inl, inr}
 use mathlib.Core.Bool.{Bool}
 use Prim.Native.Nat.{_<_}
 use native.Mathlib.Omega.{arith}
 use Rattle.promise.specs.Promise.{Decides}
-use Rattle.promise.proofs.Promise.{decides-map, decides-not}
+use Rattle.promise.proofs.Promise.{decides-not}
 use Rattle.frames.specs.declared.Act.the-variants.{WriteOne}
 use Rattle.frames.specs.Limits.{mostOfARun, most, BitValue}
 use Rattle.master.specs.declared.Request.{Request}
@@ -14,6 +14,7 @@ use Rattle.master.specs.declared.Function.{Function}
 use Rattle.master.specs.declared.Function.the-variants.{WriteBit05}
 use Rattle.master.specs.Requests.{functionNumber, actOf, widthOf, act, width, quantityFor, quantity}
 use Rattle.master.specs.Refusals.{OutOfLimits}
+use Rattle.master.proofs.Within.{run-limits}
 use borrow.Author.Needs.{needs}
 use Rattle.master.proofs.limits.is_out_of_limits.Statement.{statement}
 use Rattle.master.proofs.limits.is_out_of_limits.Tie as tie
@@ -23,20 +24,14 @@ module _ (request : Request) {function : Function} (is : request .function ≡ f
   other-function differs five = differs (ap functionNumber (sym is ∙ five))
 
   -- of a run: its quantity alone
-  run-limits : (r : Bool) → (functionNumber function ≡ functionNumber WriteBit05 → ⊥)
+  of-a-run : (r : Bool) → (functionNumber function ≡ functionNumber WriteBit05 → ⊥)
       → quantityFor (actOf function) (request .operand) ≡ request .operand
       → most (actOf function) (widthOf function) ≡ mostOfARun (widthOf function)
       → Decides ((request .operand ≡ 0) ⊎ (mostOfARun (widthOf function) < request .operand)) r → Decides (OutOfLimits request) r
-  run-limits r differs counted limit =
+  of-a-run r differs counted limit =
       let counts : quantity request ≡ request .operand = rw is counted in
       let at-most : most (act request) (width request) ≡ mostOfARun (widthOf function) = rw is limit in
-      decides-map _ _ r
-      (⊎-elim (λ none. inl (omega (arith, none, counts))) (λ more. inr (inl (omega (arith, more, counts, at-most)))))
-      (elim [
-        | inl none ↦ inl (omega (arith, none, counts))
-        | inr (inl more) ↦ inr (omega (arith, more, counts, at-most))
-        | inr (inr wrong) ↦ absurd (other-function differs (wrong .0))
-      ])
+      run-limits request (other-function differs) counts at-most r
 
   -- of one bit or word: the bit value of 05 alone
   only-05 : actOf function ≡ WriteOne → OutOfLimits request → (request .function ≡ WriteBit05) × (BitValue (request .operand) → ⊥)
@@ -95,22 +90,22 @@ is-no-quantity-requires-6 c κs = search needs
 
 returns : tie.Need-returns
 returns c =
-    run-limits (c .before .before .before .args .request) (c .before .enum-told .given .1) (c .is-no-quantity .result)
+    of-a-run (c .before .before .before .args .request) (c .before .enum-told .given .1) (c .is-no-quantity .result)
     (λ e. omega arith) refl refl (c .is-no-quantity .ensures)
 
 returns-2 : tie.Need-returns-2
 returns-2 c =
-    run-limits (c .before .before .before .args .request) (c .before .enum-told2 .given .1) (c .is-no-quantity2 .result)
+    of-a-run (c .before .before .before .args .request) (c .before .enum-told2 .given .1) (c .is-no-quantity2 .result)
     (λ e. omega arith) refl refl (c .is-no-quantity2 .ensures)
 
 returns-3 : tie.Need-returns-3
 returns-3 c =
-    run-limits (c .before .before .before .args .request) (c .before .enum-told3 .given .1) (c .is-no-quantity3 .result)
+    of-a-run (c .before .before .before .args .request) (c .before .enum-told3 .given .1) (c .is-no-quantity3 .result)
     (λ e. omega arith) refl refl (c .is-no-quantity3 .ensures)
 
 returns-4 : tie.Need-returns-4
 returns-4 c =
-    run-limits (c .before .before .before .args .request) (c .before .enum-told4 .given .1) (c .is-no-quantity4 .result)
+    of-a-run (c .before .before .before .args .request) (c .before .enum-told4 .given .1) (c .is-no-quantity4 .result)
     (λ e. omega arith) refl refl (c .is-no-quantity4 .ensures)
 
 returns-5 : tie.Need-returns-5
@@ -129,12 +124,12 @@ returns-6 c =
 
 returns-7 : tie.Need-returns-7
 returns-7 c =
-    run-limits (c .before .before .before .args .request) (c .before .enum-told7 .given .1) (c .is-no-quantity5 .result)
+    of-a-run (c .before .before .before .args .request) (c .before .enum-told7 .given .1) (c .is-no-quantity5 .result)
     (λ e. omega arith) refl refl (c .is-no-quantity5 .ensures)
 
 returns-8 : tie.Need-returns-8
 returns-8 c =
-    run-limits (c .before .before .before .args .request) (c .before .enum-told8 .given .1) (c .is-no-quantity6 .result)
+    of-a-run (c .before .before .before .args .request) (c .before .enum-told8 .given .1) (c .is-no-quantity6 .result)
     (λ e. omega arith) refl refl (c .is-no-quantity6 .ensures)
 
 pub is-out-of-limits-spec : {M : Type 1} → statement M

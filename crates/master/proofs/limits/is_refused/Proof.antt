@@ -1,11 +1,9 @@
 -- `is_refused` meets its contract.
 -- Assumes nothing.
-use mathlib.Core.Logic.{inl, inr, ⊎-elim}
-use lib.Dec.{ltb}
+use mathlib.Core.Logic.{inl}
 use borrow.Author.Needs.{needs}
-use borrow.Author.Tests.{ltb-true, lt-ltb}
-use Rattle.promise.proofs.Promise.{decides-by, if-taken, if-left}
-use Rattle.master.specs.Refusals.{leastRoom}
+use Rattle.promise.proofs.Promise.{if-taken, if-left}
+use Rattle.master.proofs.Within.{fields-refused}
 use Rattle.master.proofs.limits.is_refused.Statement.{statement}
 use Rattle.master.proofs.limits.is_refused.Tie as tie
 
@@ -17,17 +15,16 @@ returns c =
     let limits = c .before .is-out-of-limits in
     inl (if-taken _ (limits .result) (limits .ensures) (c .if1 .taken))
 
-returns-2 : tie.Need-returns-2
-returns-2 c = inr (inl (c .if2 .taken))
+lacks-station-or-room-requires : tie.Need-lacks-station-or-room-requires
+lacks-station-or-room-requires c κs = search needs
 
-returns-3 : tie.Need-returns-3
-returns-3 c =
-    let kept = c .before .before in
-    let limits = kept .before .is-out-of-limits in
-    let room = kept .before .before .args .room in
-    decides-by _ (ltb room leastRoom) (λ e. inr (inr (ltb-true room leastRoom e)))
-    (⊎-elim (λ out. absurd (if-left _ (limits .result) (limits .ensures) (kept .if1 .left) out))
-    (⊎-elim (λ zero. absurd (c .if2 .left zero)) (lt-ltb room leastRoom)))
+returns-2 : tie.Need-returns-2
+returns-2 c =
+    let limits = c .before .before .is-out-of-limits in
+    let lacks = c .lacks-station-or-room in
+    fields-refused (c .before .before .before .args .request) _ (lacks .result) (if-left _ (limits .result) (limits .ensures) (c .before .if1 .left)) (lacks .ensures)
 
 pub is-refused-spec : {M : Type 1} → statement M
-is-refused-spec = tie.close (tie.spec is-out-of-limits-requires returns returns-2 returns-3)
+is-refused-spec =
+    tie.close
+    (tie.spec is-out-of-limits-requires returns lacks-station-or-room-requires returns-2)

@@ -19,27 +19,25 @@ run-known : (start : tie.Start) → let a = start .args in
     let size = bytesFor (width (a .request)) (a .request .operand) in
     (1 ≤ a .request .operand) × (length (a .carried .now) ≡ size) × (size ≤ 160)
 run-known start =
-    let (number, runs, allowed, size, room) = start .pre in
+    let (number, runs, allowed, wide, size, room) = start .pre in
     let limits = rw runs at (quantity-in-limits (start .args .request) allowed) in
     (limits .0, rw runs at size, limits .1)
-
-width-of-requires : tie.Need-width-of-requires
-width-of-requires c κs = search needs
 
 put-head-requires : tie.Need-put-head-requires
 put-head-requires c κs = search needs
 
 put-run-requires : tie.Need-put-run-requires
 put-run-requires c κs =
-    let known = run-known (c .before .before .before .before .before .before .before .before) in
-    rw (c .before .before .before .before .before .width-of .ensures) (known .0, known .1, omega (arith, known), omega (arith, known))
+    let start = c .before .before .before .before .before .before .before in
+    let known = run-known start in
+    rw (start .pre .3) (known .0, known .1, omega (arith, known), omega (arith, known))
 
 add-put-end : tie.Need-add-put-end
 add-put-end c = search needs
 
 put-end-requires : tie.Need-put-end-requires
 put-end-requires c κs =
-    omega (arith, run-known (c .before .before .before .before .before .before .before .before .before .before .before .before))
+    omega (arith, run-known (c .before .before .before .before .before .before .before .before .before .before .before))
 
 same-length : tie.Need-same-length
 same-length c = search needs
@@ -48,12 +46,11 @@ returns : tie.Need-returns
 returns c =
     let put = c .before .before .before .before .before .before in
     let headed = put .before .before .before .before in
-    let sized = headed .before .before in
-    let start = sized .before .before .before in
+    let start = headed .before .before .before .before in
     let request = start .args .request in
     let xs = start .args .carried .now in
     let frame = start .args .frame .now in
-    let run = rw (sized .width-of .ensures) at (put .put-run .ensures) in
+    let run = rw (start .pre .3) at (put .put-run .ensures) in
     let size = packed-size (width request) (request .operand) xs (run .packed) (run .are-packed) in
     request-put request xs frame (7 + length xs) _ (bytesFor (width request) (request .operand) ∷ run .packed) _ _
     (rw (start .pre .1) (run .packed, run .are-packed, refl)) (omega (arith, size, run-known start))
@@ -64,7 +61,6 @@ pub put-with-data-spec : {M : Type 1} → statement M
 put-with-data-spec =
     tie.close
     (tie.spec
-    width-of-requires
     put-head-requires
     put-run-requires
     add-put-end
