@@ -1,6 +1,6 @@
 -- Frames: a body with its check word behind it is right, and of bytes if the body is; a right frame leaves the word 0.
 -- Assumes nothing.
-use mathlib.Core.Path.{_≡_, sym, ap, ap₂, subst, _∙_}
+use mathlib.Core.Path.{_≡_, refl, sym, ap, ap₂, subst, _∙_}
 use mathlib.Core.Bool.{true}
 use mathlib.Core.List.{List, [], _∷_, _++_}
 use Prim.Native.Nat.{ℕ, zero, suc, _+_, _-_, _/_, _%_, _^_, _<_}
@@ -9,7 +9,7 @@ use lib.Bits.{bitXor, xor-self, xor-comm, xor-lt}
 use lib.Dec.{lit<}
 use lib.ListN.{length, take, drop, length-append, take-append-drop}
 use lib.Seq.{take-at, drop-at, length-take-le}
-use Rattle.check_word.specs.CheckWord.{start, corrected, step, steps, checkWord}
+use Rattle.check_word.specs.CheckWord.{start, corrected, step, steps, addBytes, checkWord}
 use Rattle.promise.specs.Promise.{Attempt}
 use Rattle.check_word.specs.Frame.{Bytes, lowFirst, framed, Right, Put}
 use Rattle.check_word.specs.Line.{lineBits, differences, Damaged}
@@ -39,6 +39,13 @@ put-right n before after put =
     let front : take (n + 2) after ≡ framed body =
     ap (take (n + 2)) (put .1) ∙ take-at (framed body) (drop (n + 2) before) (n + 2) size in
     subst Right (sym front) (framed-right body)
+
+-- ---- no bytes
+
+pub of-none : (bytes : List ℕ) → length bytes ≡ 0 → start ≡ checkWord bytes
+unfolding checkWord addBytes
+of-none [] h = refl
+of-none (b ∷ bs) h = absurd (omega arith)
 
 -- ---- bytes
 

@@ -3,6 +3,8 @@
 mod table;
 
 ghost use mathlib.Core.Path.{_≡_};
+ghost use Prim.Native.Nat.{_≤_};
+ghost use lib.ListN.{length, take};
 ghost use Rattle.promise.specs.Promise.{Decides};
 ghost use Rattle.check_word.specs.CheckWord.{addByte, checkWord};
 ghost use Rattle.check_word.specs.Frame.{Right, Put};
@@ -17,15 +19,41 @@ fn add_byte(word: u32, byte: u8) -> u32
     (table::entry(mixed) as u32) ^ (word / 256)
 }
 
-// The check word of the bytes. Until it is returned it stands in 32 bits, for speed; the upper sixteen are 0.
+// The check word of the bytes.
 pub fn check_word(bytes: &[u8]) -> u16
+    ensures { λ r. ⌜ r ≡ checkWord (now (bytes .entry)) ⌝ }
+{
+    if bytes.len() == 0 {
+        return START as u16;
+    }
+    word_of_some(bytes)
+}
+
+// The check word of the first n bytes.
+fn word_of_first(bytes: &[u8], n: usize) -> u16
+    requires { ⌜ n ≤ length (now bytes) ⌝ }
+    ensures { λ r. ⌜ r ≡ checkWord (take n (now (bytes .entry))) ⌝ }
+{
+    if n == 0 {
+        return START as u16;
+    }
+    word_of_some(&bytes[..n])
+}
+
+// The check word of one byte or more. Callers test for none: most know that there are some, and the compiler drops their test.
+// Until it is returned the word stands in 32 bits, for speed; the upper sixteen are 0.
+fn word_of_some(bytes: &[u8]) -> u16
+    requires { ⌜ 1 ≤ length (now bytes) ⌝ }
     ensures { λ r. ⌜ r ≡ checkWord (now (bytes .entry)) ⌝ }
 {
     let mut word = START;
     let mut i = 0;
-    while i < bytes.len() {
+    loop {
         word = add_byte(word, bytes[i]);
         i += 1;
+        if i == bytes.len() {
+            break;
+        }
     }
     (word % 65536) as u16
 }
@@ -38,7 +66,7 @@ pub fn is_right(frame: &[u8]) -> bool
         return false;
     }
     let n = frame.len() - 2;
-    let word = check_word(&frame[..n]);
+    let word = word_of_first(frame, n);
     let low = frame[n] as u16;
     let high = frame[n + 1] as u16;
     word == low + high * 256
@@ -55,7 +83,7 @@ pub fn put_check_word(buffer: &mut [u8], n: usize) -> bool
     if buffer.len() - 2 < n {
         return false;
     }
-    let word = check_word(&buffer[..n]);
+    let word = word_of_first(buffer, n);
     buffer[n] = (word % 256) as u8;
     buffer[n + 1] = (word / 256) as u8;
     true

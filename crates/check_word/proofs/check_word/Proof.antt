@@ -1,80 +1,21 @@
--- `check_word` meets its contract. Invariant: the word so far, with the bytes that are left, gives the check word.
+-- `check_word` meets its contract.
 -- Assumes nothing.
-use mathlib.Core.Path.{_≡_, refl, sym, ap, _∙_}
-use mathlib.Core.List.{List}
-use Prim.Native.Nat.{ℕ, _≤_, _<_, _-_, _+_}
-use native.Mathlib.Numerals.{add-one}
-use native.Mathlib.Omega.{arith}
-use lib.ListN.{length, drop, getD, drop-of-length-le}
-use lib.Seq.{drop-cons}
 use borrow.Author.Needs.{needs}
-use Rattle.check_word.specs.CheckWord.{addByte, addBytes, checkWord}
-use Rattle.check_word.proofs.Frame.{check-word-lt}
+use Rattle.check_word.proofs.Frame.{of-none}
 use Rattle.check_word.proofs.check_word.Statement.{statement}
 use Rattle.check_word.proofs.check_word.Tie as tie
 
-abbrev Inv-loop : tie.InvT-loop
-Inv-loop bytes word₀ i₀ word i = (i ≤ length bytes) × (addBytes word (drop i bytes) ≡ checkWord bytes)
-
-abbrev μ-loop : tie.MeasureT-loop
-μ-loop bytes word₀ i₀ word i = length bytes - i
-
-one-more : (bytes : List ℕ) (word i : ℕ) → i < length bytes
-    → addBytes word (drop i bytes) ≡ addBytes (addByte word (getD bytes i 0)) (drop (i + 1) bytes)
-unfolding addBytes
-one-more bytes word i h = rw (add-one, drop-cons bytes i 0)
-
-none-left : (bytes : List ℕ) (word i : ℕ) → length bytes ≤ i → addBytes word (drop i bytes) ≡ word
-unfolding addBytes
-none-left bytes word i h = rw drop-of-length-le
-
-loop-holds : tie.Need-loop-holds Inv-loop μ-loop
-unfolding checkWord
-loop-holds c = (omega arith, refl)
-
-shared-slice-read-add-byte : tie.Need-shared-slice-read-add-byte Inv-loop μ-loop
-shared-slice-read-add-byte c = omega arith
-
-add-byte-requires : tie.Need-add-byte-requires Inv-loop μ-loop
-add-byte-requires c κs = search needs
-
-add-i : tie.Need-add-i Inv-loop μ-loop
-add-i c = omega arith
-
-loop-less : tie.Need-loop-less Inv-loop μ-loop
-loop-less c = omega arith
-
-loop-again : tie.Need-loop-again Inv-loop μ-loop
-loop-again c =
-    let bytes = c .before .before .before .before .before .args .bytes .now in
-    let at = c .before .before .before .loop in (
-      omega arith,
-      ap (λ (word : ℕ). addBytes word (drop (at .i + 1) bytes)) (c .add-byte .ensures)
-          ∙ sym (one-more bytes (at .word) (at .i) (omega arith)) ∙ at .inv .1,
-    )
-
-cast-result : tie.Need-cast-result Inv-loop μ-loop
+cast-result : tie.Need-cast-result
 cast-result c = search needs
 
--- the word has sixteen bits, so its remainder is the word
-returns : tie.Need-returns Inv-loop μ-loop
-returns c =
-    let at = c .before .loop in
-    let bytes = c .before .before .before .args .bytes .now in
-    let whole : at .word ≡ checkWord bytes = sym (none-left bytes (at .word) (at .i) (omega arith)) ∙ at .inv .1 in
-    omega (arith, check-word-lt bytes (λ k. omega (arith, c .before .before .shared-slice-known .given k)))
+returns : tie.Need-returns
+returns c = of-none _ (c .if1 .taken)
+
+word-of-some-requires : tie.Need-word-of-some-requires
+word-of-some-requires c κs = search needs
+
+returns-2 : tie.Need-returns-2
+returns-2 c = search needs
 
 pub check-word-spec : {M : Type 1} → statement M
-check-word-spec =
-    tie.close
-    (tie.spec
-    Inv-loop
-    μ-loop
-    loop-holds
-    shared-slice-read-add-byte
-    add-byte-requires
-    add-i
-    loop-less
-    loop-again
-    cast-result
-    returns)
+check-word-spec = tie.close (tie.spec cast-result returns word-of-some-requires returns-2)

@@ -6,7 +6,7 @@ use Prim.Native.Nat.{ℕ, suc, _+_, _*_, _-_, _/_, _%_, _≤_, _<_}
 use native.Mathlib.Numerals.{add-one}
 use native.Mathlib.Omega.{arith}
 use lib.ListN.{length, take, drop, getD, drop-of-length-le}
-use lib.Seq.{drop-cons, length-take-le}
+use lib.Seq.{drop-cons}
 use borrow.Author.Needs.{needs}
 use borrow.Author.Tests.{eq-eqb, eqb-true}
 use Rattle.promise.proofs.Promise.{decides-by}
@@ -44,17 +44,14 @@ returns c = search needs
 sub-n : tie.Need-sub-n
 sub-n c = search needs
 
-slice-aggregate-check-word : tie.Need-slice-aggregate-check-word
-slice-aggregate-check-word c = sym (length-take-le _ _ (omega arith))
-
-check-word-requires : tie.Need-check-word-requires
-check-word-requires c κs = search needs
+word-of-first-requires : tie.Need-word-of-first-requires
+word-of-first-requires c κs = search needs
 
 shared-slice-read-low : tie.Need-shared-slice-read-low
 shared-slice-read-low c = search needs
 
 cast-low : tie.Need-cast-low
-cast-low c = omega (arith, c .shared-slice-known2 .given (length (c .before .before .before .before .before .args .frame .now) - 2))
+cast-low c = omega (arith, c .shared-slice-known2 .given (length (c .before .before .before .before .args .frame .now) - 2))
 
 add-high : tie.Need-add-high
 add-high c = search needs
@@ -63,21 +60,21 @@ shared-slice-read-high : tie.Need-shared-slice-read-high
 shared-slice-read-high c = search needs
 
 cast-high : tie.Need-cast-high
-cast-high c = omega (arith, c .shared-slice-known3 .given (length (c .before .before .before .before .before .before .args .frame .now) - 2 + 1))
+cast-high c = omega (arith, c .shared-slice-known3 .given (length (c .before .before .before .before .before .args .frame .now) - 2 + 1))
 
 mul-result : tie.Need-mul-result
-mul-result c = omega (arith, c .shared-slice-known3 .given (length (c .before .before .before .before .before .before .args .frame .now) - 2 + 1))
+mul-result c = omega (arith, c .shared-slice-known3 .given (length (c .before .before .before .before .before .args .frame .now) - 2 + 1))
 
 add-result : tie.Need-add-result
 add-result c =
-    let n = length (c .before .before .before .before .before .before .args .frame .now) - 2 in
+    let n = length (c .before .before .before .before .before .args .frame .now) - 2 in
     omega (arith, c .before .shared-slice-known2 .given n, c .shared-slice-known3 .given (n + 1))
 
 returns-2 : tie.Need-returns-2
 returns-2 c =
-    let f = c .before .before .before .before .before .before .args .frame .now in
+    let f = c .before .before .before .before .before .args .frame .now in
     let n = length f - 2 in
-    let word = c .before .before .check-word in
+    let word = c .before .before .word-of-first in
     let byte : getD f n 0 < 256 = omega (arith, c .before .shared-slice-known2 .given n) in
     decides-by (Right f) _
     (λ t.
@@ -94,8 +91,7 @@ is-right-spec =
     (tie.spec
     returns
     sub-n
-    slice-aggregate-check-word
-    check-word-requires
+    word-of-first-requires
     shared-slice-read-low
     cast-low
     add-high

@@ -1,12 +1,12 @@
 -- `put_check_word` meets its contract: two stores behind the body make it a frame, and leave the rest.
 -- Assumes nothing.
-use mathlib.Core.Path.{_≡_, refl, sym, ap, _∙_}
+use mathlib.Core.Path.{_≡_, refl, ap, _∙_}
 use mathlib.Core.List.{List, _++_}
 use Prim.Native.Nat.{ℕ, _+_, _/_, _%_, _≤_}
 use native.Mathlib.Numerals.{add-one}
 use native.Mathlib.Omega.{arith}
 use lib.ListN.{length, take, drop, set, length-set}
-use lib.Seq.{length-take-le, sets-eq}
+use lib.Seq.{sets-eq}
 use Rattle.promise.specs.Promise.{Attempt}
 use Rattle.check_word.specs.CheckWord.{checkWord}
 use Rattle.check_word.specs.Frame.{lowFirst, framed}
@@ -31,14 +31,8 @@ returns-2 : tie.Need-returns-2
 unfolding Attempt
 returns-2 c = (λ room. omega arith, refl)
 
-slice-reshare-prefix-check-word : tie.Need-slice-reshare-prefix-check-word
-slice-reshare-prefix-check-word c = search needs
-
-slice-aggregate-check-word : tie.Need-slice-aggregate-check-word
-slice-aggregate-check-word c = sym (length-take-le _ _ (omega arith))
-
-check-word-requires : tie.Need-check-word-requires
-check-word-requires c κs = search needs
+word-of-first-requires : tie.Need-word-of-first-requires
+word-of-first-requires c κs = search needs
 
 cast-buffer : tie.Need-cast-buffer
 cast-buffer c = search needs
@@ -63,7 +57,7 @@ unfolding Attempt
 returns-3 c =
     let at = c .before .before .before .before .before .args in (
       omega arith,
-      two-stored (at .buffer .now) (at .n) (c .check-word .result) (omega arith) (c .check-word .ensures),
+      two-stored (at .buffer .now) (at .n) (c .word-of-first .result) (omega arith) (c .word-of-first .ensures),
     )
 
 pub put-check-word-spec : {M : Type 1} → statement M
@@ -73,9 +67,7 @@ put-check-word-spec =
     returns
     sub-if2
     returns-2
-    slice-reshare-prefix-check-word
-    slice-aggregate-check-word
-    check-word-requires
+    word-of-first-requires
     cast-buffer
     slice-write-buffer
     cast-buffer-2
