@@ -5,7 +5,7 @@ ghost use Rattle.check_word.specs.Back.{stepBack, stepsBack};
 
 // Entry i is i put through the eight steps: eight steps back lead from it to i.
 // Constant arms are compiled to one look-up in read-only memory; a constant array, indexed by a variable, would be written onto the stack
-// at each use. The arms count from 0x100, since places from 0 on would be compiled as signed bytes.
+// at each use. The arms count from 0x100, and i is no u8, since places from 0 on would be compiled as signed bytes.
 pub(crate) fn entry(i: u32) -> u16
     requires { ⌜ i < 256 ⌝ }
     ensures { λ r. ⌜ stepsBack 8 r ≡ i ⌝ }

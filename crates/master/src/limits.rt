@@ -56,7 +56,7 @@ pub(crate) fn is_refused(request: Request, room: usize) -> bool
     lacks_station_or_room(request.station, room)
 }
 
-// The same of 0F and 10, with the width of what they write.
+// The same of 0F and 10: by the width of what they write, and no look at the function.
 pub(crate) fn is_run_refused(width: Width, request: Request, room: usize) -> bool
     requires { ⌜ (act request ≡ WriteRun) × (width ≡ widthOf (request .function)) ⌝ }
     ensures { λ r. ⌜ Decides (FieldsRefused request room) r ⌝ }
