@@ -35,7 +35,7 @@ judged_exists areas first count = by (dec_in_no_area areas first count) (dec_rea
     by (no whole) (yes some) = (SomeReadOnly, (whole, some))
     by (no whole) (no none) = (AllReadWrite, (whole, none))
 
--- a word that is in some area, and in no read-only one, is of a read_write area
+-- a word that is in some area, and in no read-only one, is of a read-write area
 pub each_read_write : (areas : List Area) (first count : ℕ) → Judged areas first count AllReadWrite
     → (word : ℕ) → Among first count word → OfAreaWith ReadWrite areas word
 each_read_write areas first count all word among =

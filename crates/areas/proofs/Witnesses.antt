@@ -31,7 +31,7 @@ no_areas_word_0 = (0, (omega arith, omega arith), λ shown. omega (arith, shown.
 pub no_words : (areas : List Area) (first : ℕ) → Judged areas first 0 AllReadWrite
 no_words areas first = (λ none. omega (arith, none.1.0, none.1.1), λ some. omega (arith, some.1.0, some.1.1))
 
--- ---- the bench station: words 0 to 7 read_write, 8 to 15 read-only; the two areas touch
+-- ---- the bench station: words 0 to 7 read-write, 8 to 15 read-only; the two areas touch
 
 abbrev bench : List Area
 bench = area 0 8 ReadWrite ∷ area 8 8 ReadOnly ∷ []

@@ -23,7 +23,7 @@ abbrev pub OneAreaHolds : Type 0
 OneAreaHolds = (words : ℕ) (areas : List Area) → RulesKept words areas → (word i j : ℕ) → i < length areas → j < length areas
     → Holds (area_at areas i) word → Holds (area_at areas j) word → i ≡ j
 
--- .. so that no word is of a read-only area and of a read_write one
+-- .. so that no word is of a read-only area and of a read-write one
 abbrev pub OneAccess : Type 0
 OneAccess = (words : ℕ) (areas : List Area) → RulesKept words areas → (word : ℕ)
     → OfAreaWith ReadOnly areas word → OfAreaWith ReadWrite areas word → ⊥
@@ -51,7 +51,7 @@ RunAcross = (words : ℕ) (areas : List Area) → RulesKept words areas → (i j
     → (EachWord first (more + 1) (Addressable areas)
     ↔ ((k : ℕ) → i ≤ k → k < j → Touch (area_at areas k) (area_at areas (k + 1))))
 
--- all read_write: each word is of a read_write area
+-- all read-write: each word is of a read-write area
 abbrev pub ReadWriteMeans : Type 0
 ReadWriteMeans = (words : ℕ) (areas : List Area) → RulesKept words areas → (first count : ℕ)
     → (Judged areas first count AllReadWrite ↔ EachWord first count (OfAreaWith ReadWrite areas))

@@ -19,7 +19,7 @@ EachWord first count Such = (word : ℕ) → Among first count word → Such wor
 abbrev pub SomeWordInNoArea : List Area → ℕ → ℕ → Type 0
 SomeWordInNoArea areas first count = SomeWord first count (InNoArea areas)
 
--- some word of the run is of a read-only area (even if it is also of a read_write one, where areas overlap)
+-- some word of the run is of a read-only area (even if it is also of a read-write one, where areas overlap)
 abbrev pub SomeWordReadOnly : List Area → ℕ → ℕ → Type 0
 SomeWordReadOnly areas first count = SomeWord first count (OfAreaWith ReadOnly areas)
 

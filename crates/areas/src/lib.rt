@@ -54,7 +54,7 @@ pub enum Verdict {
     SomeInNoArea,
     // None does, but some word is of a read-only area: the run may be read, but not written.
     SomeReadOnly,
-    // Each word is of read_write areas alone.
+    // Each word is of read-write areas alone.
     AllReadWrite,
 }
 
@@ -68,7 +68,7 @@ pub enum Finding {
 }
 
 // Whether the list keeps the rules for an image of `words` words: it has at most 16 areas, each has a word, they ascend, don't
-// overlap, and end inside the image. And if it does, its verdict on the run; a run of no words is all read_write.
+// overlap, and end inside the image. And if it does, its verdict on the run; a run of no words is all read-write.
 pub fn survey(areas: &[Area], words: usize, run: Run) -> Finding
     ensures { Survey areas.now words run result }
 {
@@ -82,7 +82,7 @@ pub fn survey(areas: &[Area], words: usize, run: Run) -> Finding
     s.finding()
 }
 
-// The same for a list that is lent as words, three for each area: first, count, access (0 read-only, 1 read_write). Words that are
+// The same for a list that is lent as words, three for each area: first, count, access (0 read-only, 1 read-write). Words that are
 // those of no list break a rule.
 pub fn survey_words(area_words: &[u16], words: usize, run: Run) -> Finding
     ensures { SurveyWords area_words.now words run result }

@@ -18,7 +18,7 @@ station = record { own = 20; counting = ModBus; state = Ready }
 abbrev pub registers_at_first : List ℕ
 registers_at_first = 0 ∷ 1000 ∷ 500 ∷ replicate 13 0
 
--- the call for a frame; words 0 to 7 are read_write, 8 to 15 read-only (`areas` of slave's `Examples`)
+-- the call for a frame; words 0 to 7 are read-write, 8 to 15 read-only (`areas` of slave's `Examples`)
 abbrev pub call : List ℕ → List ℕ → Call
 call image frame = record {
   station = station;

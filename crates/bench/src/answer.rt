@@ -33,7 +33,7 @@ pub(crate) fn registers_at_first() -> [u16; 16]
     words
 }
 
-// Words 0 to 7 read_write, 8 to 15 read-only.
+// Words 0 to 7 read-write, 8 to 15 read-only.
 fn two_areas() -> AreaList
     ensures { listed result ≡ Examples·areas }
 {

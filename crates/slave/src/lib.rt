@@ -101,7 +101,7 @@ pub fn respond(
     answer(station, finding, frame, image, reply)
 }
 
-// The same for areas that are lent as words, three for each: first, count, access (0 read-only, 1 read_write). Words of no list are
+// The same for areas that are lent as words, three for each: first, count, access (0 read-only, 1 read-write). Words of no list are
 // answered as a list that breaks a rule.
 pub fn respond_to_words(
     station: Station,
