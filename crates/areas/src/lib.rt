@@ -1,5 +1,7 @@
 // The areas of a station: which words of the image are addressable, and which of them may be written.
 // No public function has a `requires`. The contracts cite specs/Calls.antt and specs/Words.antt.
+#![tactic(auto)]
+
 mod following;
 mod naming;
 mod search;
@@ -19,14 +21,14 @@ pub const LIST_ENTRIES: usize = 17;
 // The words of an area in a list of words.
 const AREA_WORDS: usize = 3;
 
-#[derive(Drop)]
+#[derive(Clone, Copy)]
 pub enum Access {
     ReadOnly,
     ReadWrite,
 }
 
 // `count` words from word `first` on.
-#[derive(Drop)]
+#[derive(Clone, Copy)]
 pub struct Area {
     pub first: u16,
     pub count: u16,
@@ -34,21 +36,21 @@ pub struct Area {
 }
 
 // A list of areas by value: the first `len` of the entries.
-#[derive(Drop)]
+#[derive(Clone, Copy)]
 pub struct AreaList {
     pub entries: [Area; LIST_ENTRIES],
     pub len: usize,
 }
 
 // `count` words from word `first` on, of which a list is asked.
-#[derive(Drop)]
+#[derive(Clone, Copy)]
 pub struct Run {
     pub first: u16,
     pub count: u16,
 }
 
 // What is found of the words of a run.
-#[derive(Drop)]
+#[derive(Clone, Copy)]
 pub enum Verdict {
     // Some word lies in no area.
     SomeInNoArea,
@@ -59,7 +61,7 @@ pub enum Verdict {
 }
 
 // What is found of a list.
-#[derive(Drop)]
+#[derive(Clone, Copy)]
 pub enum Finding {
     // It breaks a rule.
     BreaksARule,

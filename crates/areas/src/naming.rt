@@ -3,7 +3,7 @@ ghost use Rattle.areas.specs.Naming.{AccessIs};
 
 use super::Access;
 
-#[derive(Drop)]
+#[derive(Clone, Copy)]
 pub(crate) enum AccessNamed {
     Names(Access),
     Nothing,

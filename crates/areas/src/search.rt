@@ -7,7 +7,7 @@ ghost use Rattle.areas.specs.Search.{Enough, Begun, Past, Meets, Looked, Judges,
 use super::following::{end_of, follows};
 use super::{Access, Area, Finding, MOST_AREAS, Run, Verdict};
 
-#[derive(Drop)]
+#[derive(Clone, Copy)]
 pub(crate) struct Search {
     // the words of the image
     pub words: usize,

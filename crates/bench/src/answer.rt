@@ -16,7 +16,7 @@ const LONGEST_ANSWER: usize = 501;
 
 // How far a block is answered: so many of its bytes are used up, so many characters of the next line are held, and so many
 // characters of the text are written.
-#[derive(Drop)]
+#[derive(Clone, Copy)]
 pub(crate) struct Progress {
     pub used: usize,
     pub held: usize,

@@ -1,4 +1,6 @@
 // The bench program: answers each line of its input, a frame in hex, as station 20 would.
+#![tactic(auto)]
+
 mod answer;
 
 ghost use Rattle.std.specs.Prelude.{◌≤◌, ◌<◌, length};
@@ -10,7 +12,7 @@ ghost use Rattle.bench.specs.Blocks.{HeldWithin, BlockPassed};
 const LINE_ROOM: usize = lines::LONGEST_LINE + 1;
 
 // What comes after a block: so many characters of the next line are held, or input or output has ended.
-#[derive(Drop)]
+#[derive(Clone, Copy)]
 enum Next {
     Held(usize),
     Ended,

@@ -2,7 +2,7 @@
 use crate::cursor::{Cursor, LARGEST_NUMBER};
 use master::{Function, Request};
 
-#[derive(Drop)]
+#[derive(Clone, Copy)]
 pub(crate) enum Kind {
     Call,
     Build(Request),
@@ -11,20 +11,20 @@ pub(crate) enum Kind {
 }
 
 // The cursor is behind what says it.
-#[derive(Drop)]
+#[derive(Clone, Copy)]
 pub(crate) struct Ask {
     pub(crate) kind: Kind,
     pub(crate) next: Cursor,
 }
 
 // Parts of a line, each with the cursor behind it.
-#[derive(Drop)]
+#[derive(Clone, Copy)]
 struct RequestPart {
     request: Request,
     next: Cursor,
 }
 
-#[derive(Drop)]
+#[derive(Clone, Copy)]
 struct FunctionPart {
     function: Function,
     next: Cursor,

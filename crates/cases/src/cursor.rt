@@ -9,7 +9,7 @@ pub(crate) const LONGEST_LINE: usize = 4096;
 
 pub(crate) const LARGEST_NUMBER: usize = 65535;
 
-#[derive(Drop)]
+#[derive(Clone, Copy)]
 pub(crate) struct Cursor {
     pub(crate) at: usize,
     pub(crate) good: bool,

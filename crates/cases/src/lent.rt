@@ -5,7 +5,7 @@ ghost use Rattle.std.specs.Prelude.{◌≤◌};
 pub(crate) const MOST_ROOM: usize = 512;
 
 // As many bytes as `room` says: the first is `start`, and each is `step` more than the one before.
-#[derive(Drop)]
+#[derive(Clone, Copy)]
 pub(crate) struct Lent {
     pub(crate) room: usize,
     pub(crate) start: u8,

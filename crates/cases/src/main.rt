@@ -1,5 +1,7 @@
 // Calls of the slave and of the master's half as lines: each line of the input asks for some, and a line of the output says what
 // they answered and left. docs/CASES.md has the format.
+#![tactic(auto)]
+
 mod answer;
 mod ask;
 mod cursor;
@@ -17,7 +19,7 @@ use sink::Sink;
 const LINE_ROOM: usize = cursor::LONGEST_LINE + 1;
 
 // How far the input is answered: so many characters of a line are held, and there may be more, or not.
-#[derive(Drop)]
+#[derive(Clone, Copy)]
 struct Progress {
     held: usize,
     more: bool,

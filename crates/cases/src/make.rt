@@ -8,7 +8,7 @@ use crate::{lent, print};
 use master::{Built, Reading, Request};
 
 // The buffer, of which so many bytes were written, and the output, with what was printed.
-#[derive(Drop)]
+#[derive(Clone, Copy)]
 pub(crate) struct Made {
     pub(crate) buffer: [u8; MOST_ROOM],
     pub(crate) written: usize,

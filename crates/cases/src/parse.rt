@@ -15,7 +15,7 @@ pub(crate) const MOST_WORDS: usize = 8192;
 const BAR: usize = 1;
 
 // What a line says, if it is good; its image and its frame stand in buffers.
-#[derive(Drop)]
+#[derive(Clone, Copy)]
 pub(crate) struct Case {
     pub(crate) good: bool,
     pub(crate) station: Station,
@@ -29,7 +29,7 @@ pub(crate) struct Case {
 }
 
 // The last two parts of a line of any kind: a lent buffer, and bytes, which stand in a buffer.
-#[derive(Drop)]
+#[derive(Clone, Copy)]
 pub(crate) struct EndsPart {
     pub(crate) good: bool,
     pub(crate) lent: Lent,
@@ -38,26 +38,26 @@ pub(crate) struct EndsPart {
 }
 
 // Parts of a line, each with the cursor behind it.
-#[derive(Drop)]
+#[derive(Clone, Copy)]
 struct StationPart {
     station: Station,
     next: Cursor,
 }
 
-#[derive(Drop)]
+#[derive(Clone, Copy)]
 struct AreaPart {
     area: Area,
     next: Cursor,
 }
 
-#[derive(Drop)]
+#[derive(Clone, Copy)]
 struct AreasPart {
     list: AreaList,
     next: Cursor,
 }
 
 // As many numbers as `count` says: the first is `start`, and each is `step` more than the one before.
-#[derive(Drop)]
+#[derive(Clone, Copy)]
 struct SeriesPart {
     count: usize,
     start: u16,

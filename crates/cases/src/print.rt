@@ -9,7 +9,7 @@ use slave::Outcome;
 const TEXT_ROOM: usize = 3 * MOST_ROOM;
 
 // The output while words of an image are put: some word has been put, or none.
-#[derive(Drop)]
+#[derive(Clone, Copy)]
 struct Words {
     some: bool,
     sink: Sink,

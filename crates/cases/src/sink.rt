@@ -3,7 +3,7 @@ use crate::cut;
 use libc::STDOUT_FILENO;
 
 // So many bytes wait; the output is open, or has failed.
-#[derive(Drop)]
+#[derive(Clone, Copy)]
 pub(crate) struct Sink {
     at: usize,
     pub(crate) open: bool,

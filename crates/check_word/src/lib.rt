@@ -1,5 +1,7 @@
 // The check word of a run of bytes; whether a frame ends in its check word; a check word put behind a body.
 // No public function has a `requires`. The contracts cite specs/CheckWord.antt and specs/Frame.antt.
+#![tactic(auto)]
+
 mod table;
 
 ghost use Rattle.std.specs.Prelude.{◌≡◌, ◌≤◌, length, take};

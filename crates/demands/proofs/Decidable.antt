@@ -33,11 +33,11 @@ dec_case place back there a b = map_dec (back_apart place back there a b) (ap pl
 
 pub dec_act : (a b : Act) → Dec (a ≡ b)
 dec_act = dec_case act_place (λ n. get_or (Read ∷ WriteOne ∷ WriteRun ∷ []) n Read)
-    (λ a. elim a [ Read ↦ refl | WriteOne ↦ refl | WriteRun ↦ refl ])
+    (λ a. elim a as (λ k. get_or (Read ∷ WriteOne ∷ WriteRun ∷ []) (act_place k) Read ≡ k) [ Read ↦ refl | WriteOne ↦ refl | WriteRun ↦ refl ])
 
 pub dec_state : (a b : State) → Dec (a ≡ b)
 dec_state = dec_case state_place (λ n. get_or (Ready ∷ NotReady ∷ AtTheKeyboard ∷ []) n Ready)
-    (λ a. elim a [ Ready ↦ refl | NotReady ↦ refl | AtTheKeyboard ↦ refl ])
+    (λ a. elim a as (λ k. get_or (Ready ∷ NotReady ∷ AtTheKeyboard ∷ []) (state_place k) Ready ≡ k) [ Ready ↦ refl | NotReady ↦ refl | AtTheKeyboard ↦ refl ])
 
 pub dec_bit : (width : Width) → Dec (width ≡ Bit)
 dec_bit Bit = yes refl

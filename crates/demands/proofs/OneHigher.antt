@@ -20,7 +20,7 @@ use Rattle.slave.specs.Numbers.{kind_of}
 use Rattle.slave.specs.Table.{FirstDecides}
 use Rattle.slave.specs.Answer.{over, ReplyTo, ImageAfter, Call, Answer, Answers}
 use Rattle.slave.proofs.Cases.{act_place, apart}
-use Rattle.slave.proofs.Reply.{right_framed, reply_length}
+use Rattle.slave.proofs.Reply.{right_framed, reply_length_lem}
 use Rattle.slave.proofs.Laws.{RespondDetermined}
 use Rattle.demands.specs.Terms.{lines_of, first_of, AcceptedWrite, StartOrCheckWord, AlikeButForStart}
 use Rattle.demands.proofs.Left.{IsDone, LeftBy, left_by, done_by}
@@ -111,9 +111,9 @@ module _ (call : Call) (a f start : ℕ) (rest : List ℕ) (x y : Answer)
       (restarted_right a f rest start) long).0 d.are_the_reply in
       let are = (write_echoed own (first_of higher) higher.frame call.image act width (echo higher.frame) write
       (restarted_right a f rest (start + 1)) long').1 refl in
-      let size = reply_length own (first_of lower) lower.frame call.image act width _ long d.are_the_reply
+      let size = reply_length_lem own (first_of lower) lower.frame call.image act width _ long d.are_the_reply
       ∙ ap (reply_length act width) (count_over a f rest start (start + 1) act long)
-      ∙ sym (reply_length own (first_of higher) higher.frame call.image act width _ long' are) in
+      ∙ sym (reply_length_lem own (first_of higher) higher.frame call.image act width _ long' are) in
       let done : IsDone higher n y.image (over (echo higher.frame) call.reply) act width =
       record {
         bytes = echo higher.frame;

@@ -1,5 +1,7 @@
 // What both ends of the line speak of: the functions, how much they may ask for, byte counts and lengths, numbers of two bytes,
 // exception codes. No public function has a `requires`. The contracts cite specs/.
+#![tactic(auto)]
+
 ghost use Rattle.std.specs.Prelude.{◌≡◌, ◌+◌, ◌<◌};
 ghost use Rattle.promise.specs.Promise.{Decides};
 ghost use Rattle.frames.specs.declared.Act.TheVariants.{WriteOne};
@@ -49,14 +51,14 @@ pub const ON: u16 = 0xff00;
 pub const OFF: u16 = 0x0000;
 
 // What a function addresses.
-#[derive(Drop)]
+#[derive(Clone, Copy)]
 pub enum Width {
     Bit,
     Word,
 }
 
 // What a function does: it reads a run, writes one bit or word, or writes a run.
-#[derive(Drop)]
+#[derive(Clone, Copy)]
 pub enum Act {
     Read,
     WriteOne,
@@ -64,14 +66,14 @@ pub enum Act {
 }
 
 // A function, if the number is one of the eight.
-#[derive(Drop)]
+#[derive(Clone, Copy)]
 pub enum Lookup {
     Found(Act, Width),
     NotInTable,
 }
 
 // What an exception says.
-#[derive(Drop)]
+#[derive(Clone, Copy)]
 pub enum Code {
     // The function is not in the table.
     Function,

@@ -1,5 +1,7 @@
 // Frames and outcomes as lines of text: the next line out of blocks of input, the frame that a line says, the line that an
 // outcome gives. No public function has a `requires`. The contracts cite specs/.
+#![tactic(auto)]
+
 mod hex;
 mod place;
 
@@ -15,7 +17,7 @@ pub const MOST_BYTES: usize = 300;
 pub const LONGEST_LINE: usize = 899;
 
 // What a line says.
-#[derive(Drop)]
+#[derive(Clone, Copy)]
 pub enum Line {
     // A frame of so many bytes.
     Frame(usize),
@@ -24,7 +26,7 @@ pub enum Line {
 
 // What was taken out of a block: so many of its bytes are used up; so many characters of the line are held, and it is whole or
 // not.
-#[derive(Drop)]
+#[derive(Clone, Copy)]
 pub struct Taken {
     pub used: usize,
     pub held: usize,

@@ -1,6 +1,8 @@
 // A master's half: requests are built, and replies are read beside the request that they answer. Of a station's areas, counting
 // and state nothing is known here. No public function has a `requires`. The contracts cite specs/Building.antt and
 // specs/Reading.antt.
+#![tactic(auto)]
+
 mod fit;
 mod limits;
 mod put;
@@ -19,7 +21,7 @@ use frames::{Act, Code, Width};
 pub const LEAST_ROOM: usize = 256;
 
 // The eight functions, each with its number.
-#[derive(Drop)]
+#[derive(Clone, Copy)]
 pub enum Function {
     ReadBits01,
     ReadBits02,
@@ -32,7 +34,7 @@ pub enum Function {
 }
 
 // The fields of a request, but for the data of 0F and 10.
-#[derive(Drop)]
+#[derive(Clone, Copy)]
 pub struct Request {
     // 1 to 255.
     pub station: u8,
@@ -44,7 +46,7 @@ pub struct Request {
 }
 
 // Why nothing is built, or a reply not read.
-#[derive(Drop)]
+#[derive(Clone, Copy)]
 pub enum Refusal {
     // 70: quantity or bit value out of limits, data not of the quantity's size, station 0, or a lent buffer under 256 bytes.
     Request,
@@ -54,14 +56,14 @@ pub enum Refusal {
     Reply,
 }
 
-#[derive(Drop)]
+#[derive(Clone, Copy)]
 pub enum Built {
     Refused(Refusal),
     // The buffer starts with a request of so many bytes.
     Frame(usize),
 }
 
-#[derive(Drop)]
+#[derive(Clone, Copy)]
 pub enum Reading {
     Refused(Refusal),
     // The buffer starts with the bits or words, packed as on the line, in so many bytes.

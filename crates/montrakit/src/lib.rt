@@ -1,6 +1,8 @@
 // The face for programs in other languages: numbers and slices of numbers go in, and what is answered is told as one number. No
 // function has a `requires`: what means nothing is answered too. The contracts cite specs/Responding.antt and specs/Mastering.antt;
 // host/include/montrakit.h says the same to a C program, and what it owes.
+#![tactic(auto)]
+
 mod naming;
 mod telling;
 

@@ -4,19 +4,19 @@ ghost use Rattle.montrakit.specs.Naming.{CountingIs, StateIs, FunctionIs};
 use master::Function;
 use slave::{Counting, State};
 
-#[derive(Drop)]
+#[derive(Clone, Copy)]
 pub(crate) enum CountingNamed {
     Names(Counting),
     Nothing,
 }
 
-#[derive(Drop)]
+#[derive(Clone, Copy)]
 pub(crate) enum StateNamed {
     Names(State),
     Nothing,
 }
 
-#[derive(Drop)]
+#[derive(Clone, Copy)]
 pub(crate) enum FunctionNamed {
     Names(Function),
     Nothing,

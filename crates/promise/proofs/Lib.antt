@@ -1,3 +1,1 @@
-pub mod Prefix
 pub mod Promise
-pub mod Walking

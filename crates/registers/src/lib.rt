@@ -1,5 +1,7 @@
 // The image of registers, one memory seen as words and as bits: runs packed into a lent buffer, and stored from bytes.
 // No public function has a `requires`. The contracts cite specs/Calls.antt.
+#![tactic(auto)]
+
 mod pieces;
 
 ghost use Rattle.std.specs.Prelude.{◌≡◌, ◌+◌, ◌*◌, ◌≤◌, ◌<◌};

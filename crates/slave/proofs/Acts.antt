@@ -16,7 +16,7 @@ use Rattle.slave.specs.declared.decide.Request.{Request}
 use Rattle.slave.specs.Conditions.{least_room}
 use Rattle.slave.specs.Answer.{StoredOne, StoredRun, over, ReplyTo, ImageAfter, Done}
 use Rattle.slave.specs.Carrying.{Inside, ReadWritten, Possible}
-use Rattle.slave.proofs.Reply.{reply_length}
+use Rattle.slave.proofs.Reply.{reply_length_lem}
 
 -- the part of a frame that is lent to be stored: what stands between byte count and check word
 abbrev lent_bytes : List ℕ → List ℕ
@@ -83,7 +83,7 @@ module _ {frame : List ℕ} {words room : ℕ} {request : Request} (possible : P
       bytes = bytes;
       are_the_reply = are;
       told = told ∙ ap (reply_length request.act request.width) possible.count_read
-          ∙ sym (reply_length own request.first frame image request.act request.width bytes possible.long are);
+          ∙ sym (reply_length_lem own request.first frame image request.act request.width bytes possible.long are);
       written = written;
       stored = stored;
     }

@@ -19,7 +19,7 @@ use Rattle.slave.specs.declared.decide.Request.{Request}
 use Rattle.slave.specs.Conditions.{OfFound, first_addressed}
 use Rattle.slave.specs.Answer.{Done, Call, Answer, Answers}
 use Rattle.slave.specs.Deciding.{Reads}
-use Rattle.slave.proofs.Reply.{reply_length}
+use Rattle.slave.proofs.Reply.{reply_length_lem}
 use Rattle.slave.proofs.Accepted.{no_line, possible}
 
 pub record Lengths (lookup : Lookup) (frame : List ℕ) (n : ℕ) : Type 0 where
@@ -47,7 +47,7 @@ module _ (call : Call) (image reply : List ℕ) (n : ℕ)
       let none = no_line call.station call.areas words room call.frame answers.decided in
       let can = possible call.station call.areas words room call.frame request none reads in
       let told : n ≡ reply_length act width count =
-      done.told ∙ reply_length _ _ call.frame call.image act width done.bytes can.long done.are_the_reply in
+      done.told ∙ reply_length_lem _ _ call.frame call.image act width done.bytes can.long done.are_the_reply in
       let replies = frames-laws.ReplyLengths act width count can.some can.at_most in
       let requests = frames-laws.RequestLengths act width count call.frame can.at_most can.byte_count in
       record {

@@ -92,13 +92,13 @@ shown_length Word first count image shown packed = packed.size
 
 -- ---- how long a reply is
 
-pub reply_length : (own first : ℕ) (frame image : List ℕ) (act : Act) (width : Width) (bytes : List ℕ)
+pub reply_length_lem : (own first : ℕ) (frame image : List ℕ) (act : Act) (width : Width) (bytes : List ℕ)
     → length frame ≡ request_length act frame → ReplyTo own first frame image act width bytes
     → length bytes ≡ reply_length act width (quantity act frame)
-reply_length own first frame image Read width bytes long (shown, are, is) =
+reply_length_lem own first frame image Read width bytes long (shown, are, is) =
     let body = own ∷ function_field frame ∷ bytes_for width (quantity_field frame) ∷ shown in
     let size = shown_length width first (quantity_field frame) image shown are in
     ap length is ∙ omega (arith, framed_length body, size)
-reply_length own first frame image WriteOne width bytes long is = ap length is ∙ long
-reply_length own first frame image WriteRun width bytes long is =
+reply_length_lem own first frame image WriteOne width bytes long is = ap length is ∙ long
+reply_length_lem own first frame image WriteRun width bytes long is =
     ap length is ∙ omega (arith, framed_length (up_to_quantity frame), length-take-le 6 frame (omega arith))

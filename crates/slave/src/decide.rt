@@ -21,7 +21,7 @@ use frames::{Act, Code, Lookup, Width};
 use registers::WORD_BITS;
 
 // An accepted request: `count` bits or words from address `first` on, counted from 0.
-#[derive(Drop)]
+#[derive(Clone, Copy)]
 pub(crate) struct Request {
     pub act: Act,
     pub width: Width,
@@ -29,7 +29,7 @@ pub(crate) struct Request {
     pub count: usize,
 }
 
-#[derive(Drop)]
+#[derive(Clone, Copy)]
 pub(crate) enum Decision {
     Refused(Refusal),
     Silent(Silence),

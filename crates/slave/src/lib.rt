@@ -1,6 +1,8 @@
 // A slave's core: one received frame is answered. First it is decided what to answer, and no register is read for that; then the
 // decision is carried out, and by then nothing can go wrong. The areas are lent, as a slice of areas or of words; `respond_by_value`
 // lends a list by value. No public function has a `requires`. The contracts cite specs/Answer.antt and specs/Words.antt.
+#![tactic(auto)]
+
 mod carry;
 mod decide;
 
@@ -21,14 +23,14 @@ pub const MOST_IMAGE_WORDS: usize = 4095;
 pub const LEAST_ROOM: usize = 256;
 
 // How the line counts addresses: MOD-Bus from 0, J-Bus from 1.
-#[derive(Drop)]
+#[derive(Clone, Copy)]
 pub enum Counting {
     ModBus,
     JBus,
 }
 
 // What the station is doing.
-#[derive(Drop)]
+#[derive(Clone, Copy)]
 pub enum State {
     Ready,
     // It answers with exception 4.
@@ -37,7 +39,7 @@ pub enum State {
     AtTheKeyboard,
 }
 
-#[derive(Drop)]
+#[derive(Clone, Copy)]
 pub struct Station {
     // 1 to 255.
     pub own: u8,
@@ -46,7 +48,7 @@ pub struct Station {
 }
 
 // Why a call is refused.
-#[derive(Drop)]
+#[derive(Clone, Copy)]
 pub enum Refusal {
     // 1: own address is 0.
     OwnAddress,
@@ -59,7 +61,7 @@ pub enum Refusal {
 }
 
 // Why a frame is met with silence.
-#[derive(Drop)]
+#[derive(Clone, Copy)]
 pub enum Silence {
     // 10: frame under 4 or over 256 bytes.
     FrameLength,
@@ -75,7 +77,7 @@ pub enum Silence {
     NoQuantity,
 }
 
-#[derive(Drop)]
+#[derive(Clone, Copy)]
 pub enum Outcome {
     Refused(Refusal),
     Silent(Silence),

@@ -7,7 +7,7 @@ use Prim.Native.Nat.{ℕ, ◌≤◌, ◌<◌, ◌^◌}
 use lib.Dec.{T, lit<}
 use lib.ListN.{length, take}
 use seplogic.Ra.Ura.{Ura}
-use seplogic.Ra.TreeShare.{full_share}
+use base.Fraction.{full_share}
 use package.mir.Syntax.{Ty, named, erased, imm, mut, w8, w16, w64, ty_int, ty_ref, ty_array}
 use package.mir.Raw.{raw as raw_ty}
 use package.mir.Val.{Val, WT, has_ty, vint, vptr}
