@@ -58,9 +58,10 @@ pub(crate) fn write_two(first: &[u8], second: &[u8], text: &mut [u8]) -> usize
     if text.len() - n < second.len() {
         return 0;
     }
-    bytes::copy(first, text);
-    bytes::copy(second, &mut text[n..]);
-    n + second.len()
+    let end = n + second.len();
+    text[..n].copy_from_slice(first);
+    text[n..end].copy_from_slice(second);
+    end
 }
 
 // Writes a word and a number below 100 as a line.
@@ -86,7 +87,7 @@ pub(crate) fn write_reply(reply: &[u8], n: usize, text: &mut [u8]) -> usize
     if (text.len() - REPLY_WORD - 1) / 3 < count {
         return 0;
     }
-    bytes::copy(b"reply", text);
+    text[..REPLY_WORD].copy_from_slice(b"reply");
     super::write_bytes(&reply[..count], &mut text[REPLY_WORD..]);
     let end = REPLY_WORD + 3 * count;
     text[end] = LINE_FEED;

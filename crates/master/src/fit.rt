@@ -141,7 +141,7 @@ pub(crate) fn take_data(reading: Reading, reply: &[u8], buffer: &mut [u8])
     match reading {
         Reading::Refused(_) => {}
         Reading::Data(bytes) => {
-            bytes::copy(&reply[HEAD..HEAD + bytes], buffer);
+            buffer[..bytes].copy_from_slice(&reply[HEAD..HEAD + bytes]);
         }
         Reading::Written => {}
         Reading::Exception(_) => {}

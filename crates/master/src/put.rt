@@ -68,7 +68,7 @@ fn put_data(width: Width, count: u16, carried: &[u8], buffer: &mut [u8])
     ensures { Filled (length carried.now) (PackedAgain width count carried.now)
         buffer.old buffer.new }
 {
-    bytes::copy(carried, buffer);
+    buffer[..carried.len()].copy_from_slice(carried);
     match width {
         Width::Bit => {
             let last = carried.len() - 1;
