@@ -110,6 +110,7 @@ fn are_two_at(len: usize, i: usize) -> bool
 }
 
 // The number of two bytes at i, high byte first; bytes past the end count as 0.
+#[tactic(auto, unfolding(crate::specs::Fields::number))]
 pub fn number_at(bytes: &[u8], i: usize) -> u16
     ensures { result ≡ number bytes.now i }
 {
@@ -122,6 +123,7 @@ pub fn number_at(bytes: &[u8], i: usize) -> u16
 }
 
 // The function that a number stands for.
+#[tactic(auto, unfolding(crate::specs::Functions::function_of))]
 pub fn function_of(number: u8) -> Lookup
     ensures { result ≡ function_of number }
 {
@@ -238,6 +240,7 @@ pub fn code_number(code: Code) -> u8
 }
 
 // A function's number as an exception has it.
+#[tactic(auto, unfolding(crate::specs::Exceptions::top_bit_set))]
 pub fn top_bit_set(function: u8) -> u8
     ensures { result ≡ top_bit_set function }
 {
