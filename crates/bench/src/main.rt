@@ -8,6 +8,11 @@ ghost use Rattle.lines.specs.Hex.{longest_line};
 ghost use Rattle.bench.specs.Bench.{longest_answer};
 ghost use Rattle.bench.specs.Blocks.{HeldWithin, BlockPassed};
 
+use std::io::{Read, Stdin, Stdout, Write};
+
+// The characters of a block of input, and of the answers to some of its lines.
+const BLOCK_ROOM: usize = 65536;
+
 // One more than the longest line that says a frame, so that a longer one is seen to be longer.
 const LINE_ROOM: usize = lines::LONGEST_LINE + 1;
 
@@ -20,6 +25,7 @@ enum Next {
 
 // Answers the lines of a block, and writes the answers.
 fn answer_block(
+    stdout: &mut Stdout,
     block: &[u8],
     line: &mut [u8],
     held: usize,
@@ -37,7 +43,7 @@ fn answer_block(
     while from < block.len() {
         let done = answer::answer_lines(&block[from..], line, held, image, text);
         let written = done.written;
-        if !io::write_all(libc::STDOUT_FILENO, &text[..written]) {
+        if stdout.write_all(&text[..written]).is_err() {
             return Next::Ended;
         }
         from += done.used;
@@ -48,6 +54,8 @@ fn answer_block(
 
 // Reads a block and answers its lines. When the input has ended, a last line is answered; a line that a failure cuts off is not.
 fn read_block(
+    stdin: &mut Stdin,
+    stdout: &mut Stdout,
     input: &mut [u8],
     line: &mut [u8],
     held: usize,
@@ -59,21 +67,26 @@ fn read_block(
     requires longest_answer_in_bounds { longest_answer ≤ length text.old }
     ensures { HeldWithin (length line.old) result }
 {
-    let got = libc::read(libc::STDIN_FILENO, input);
-    if got < 0 {
+    let Ok(n) = stdin.read(input) else {
         return Next::Ended;
-    }
-    let n = io::count(got, input);
+    };
     if n == 0 {
         let written = answer::answer_last(&line[..held], image, text);
-        io::write_all(libc::STDOUT_FILENO, &text[..written]);
+        let _ = stdout.write_all(&text[..written]);
         return Next::Ended;
     }
-    answer_block(&input[..n], line, held, image, text)
+    answer_block(stdout, &input[..n], line, held, image, text)
 }
 
 // Goes on block by block. A proved loop has to end, so it counts its turns down, from a number that no input uses up.
-fn run(input: &mut [u8], line: &mut [u8], image: &mut [u16], text: &mut [u8])
+fn run(
+    stdin: &mut Stdin,
+    stdout: &mut Stdout,
+    input: &mut [u8],
+    line: &mut [u8],
+    image: &mut [u16],
+    text: &mut [u8],
+)
     requires longest_line_in_bounds { longest_line < length line.old }
     requires longest_answer_in_bounds { longest_answer ≤ length text.old }
 {
@@ -81,17 +94,26 @@ fn run(input: &mut [u8], line: &mut [u8], image: &mut [u16], text: &mut [u8])
     let mut turns = u64::MAX;
     while turns > 0 {
         turns -= 1;
-        let Next::Held(n) = read_block(input, line, held, image, text) else {
+        let Next::Held(n) = read_block(stdin, stdout, input, line, held, image, text) else {
             return;
         };
         held = n;
     }
 }
 
-fn main() {
+fn main(rt: HostRuntime) {
+    let mut stdin = rt.stdin();
+    let mut stdout = rt.stdout();
     let mut image = answer::registers_at_first();
     let mut line = [0u8; LINE_ROOM];
-    let mut input = io::large_buffer();
-    let mut text = io::large_buffer();
-    run(&mut input, &mut line, &mut image, &mut text);
+    let mut input = [0u8; BLOCK_ROOM];
+    let mut text = [0u8; BLOCK_ROOM];
+    run(
+        &mut stdin,
+        &mut stdout,
+        &mut input,
+        &mut line,
+        &mut image,
+        &mut text,
+    );
 }

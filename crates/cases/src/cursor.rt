@@ -20,7 +20,7 @@ pub(crate) struct Cursor {
 impl Cursor {
     // Behind what a line starts with. Fails if it starts otherwise, or is too long.
     pub(crate) fn behind(line: &[u8], word: &[u8]) -> Self {
-        let there = check::same(cut::front(line, word.len()), word);
+        let there = cut::front(line, word.len()) == word;
         Cursor {
             at: word.len(),
             good: there && line.len() <= LONGEST_LINE,
@@ -40,7 +40,11 @@ impl Cursor {
         if line.len() <= at {
             return self.failed();
         }
-        let value = bytes::scan::find(letters, 0, letters.len(), line[at]);
+        let read = line[at];
+        let value = letters
+            .iter()
+            .position(|letter| *letter == read)
+            .unwrap_or(letters.len());
         Cursor {
             at: at + 1,
             good: self.good && value < letters.len(),

@@ -66,10 +66,7 @@ pub(crate) fn put_left(
 ) -> Sink {
     let mut background = [0u8; MOST_ROOM];
     lent::fill(&mut background, lent);
-    let kept = check::same(
-        cut::behind(buffer, written),
-        cut::behind(&background, written),
-    );
+    let kept = cut::behind(buffer, written) == cut::behind(&background, written);
     put_bytes(cut::front(buffer, written), output, sink)
         .put_if(kept, b"|kept", output)
         .put_if(!kept, b"|spilt", output)

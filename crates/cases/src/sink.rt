@@ -1,18 +1,23 @@
 // Output by way of a buffer: pieces of text wait in its start until they are written together.
 use crate::cut;
-use libc::STDOUT_FILENO;
+use std::io::{Stdout, Write};
 
 // So many bytes wait; the output is open, or has failed.
 #[derive(Clone, Copy)]
 pub(crate) struct Sink {
+    stdout: Stdout,
     at: usize,
     pub(crate) open: bool,
 }
 
 impl Sink {
     // Nothing waits.
-    pub(crate) fn empty() -> Self {
-        Sink { at: 0, open: true }
+    pub(crate) fn empty(stdout: Stdout) -> Self {
+        Sink {
+            stdout,
+            at: 0,
+            open: true,
+        }
     }
 
     // Puts a piece behind what waits. Where there is no room for it, both are written.
@@ -20,18 +25,16 @@ impl Sink {
         let at = self.at;
         if at <= output.len() {
             if piece.len() <= output.len() - at {
-                bytes::copy(piece, &mut output[at..]);
+                let end = at + piece.len();
+                output[at..end].copy_from_slice(piece);
                 return Sink {
-                    at: at + piece.len(),
+                    stdout: self.stdout,
+                    at: end,
                     open: self.open,
                 };
             }
         }
-        let sink = self.flush(output);
-        Sink {
-            at: 0,
-            open: sink.open && io::write_all(STDOUT_FILENO, piece),
-        }
+        self.flush(output).written(piece)
     }
 
     // Puts a piece if it is wanted.
@@ -44,16 +47,22 @@ impl Sink {
 
     // Puts a number in decimal.
     pub(crate) fn put_number(self, number: u64, output: &mut [u8]) -> Self {
-        let mut digits = [0u8; 20];
-        let n = io::decimal(number, &mut digits);
-        self.put(&digits[..n], output)
+        let mut digits = itoa::Buffer::new();
+        self.put(digits.format(number).as_bytes(), output)
     }
 
     // Writes what waits.
     pub(crate) fn flush(self, output: &[u8]) -> Self {
+        self.written(cut::front(output, self.at))
+    }
+
+    // Writes a piece. Nothing waits then.
+    fn written(self, piece: &[u8]) -> Self {
+        let mut stdout = self.stdout;
         Sink {
+            stdout,
             at: 0,
-            open: self.open && io::write_all(STDOUT_FILENO, cut::front(output, self.at)),
+            open: self.open && stdout.write_all(piece).is_ok(),
         }
     }
 }

@@ -3,6 +3,7 @@ ghost use Rattle.std.specs.Prelude.{◌≡◌, ◌%◌, ◌^◌, ◌≤◌};
 ghost use Rattle.master.specs.Spare.{bits_in_last};
 
 // How many bits of `count` packed bits stand in the last byte.
+#[tactic(auto, unfolding(crate::specs::Spare::bits_in_last))]
 fn bits_in_last(count: u16) -> usize
     requires { 1 ≤ count }
     ensures { result ≡ bits_in_last count }

@@ -16,16 +16,14 @@ use naming::{CountingNamed, FunctionNamed, StateNamed};
 use slave::Station;
 
 // The check word of any bytes.
-#[unsafe(no_mangle)]
-pub extern "C" fn montrakit_check_word(bytes: &[u8]) -> u16
+pub fn montrakit_check_word(bytes: &[u8]) -> u16
     ensures { result ≡ check_word bytes.now }
 {
     check_word::check_word(bytes)
 }
 
 // Answers one received frame, as `slave::respond_to_words` does. `areas` has three words for each area: first, count, access.
-#[unsafe(no_mangle)]
-pub extern "C" fn montrakit_respond(
+pub fn montrakit_respond(
     own: u8,
     counting: u8,
     state: u8,
@@ -54,8 +52,7 @@ pub extern "C" fn montrakit_respond(
 }
 
 // Builds a request, as `master::build` does. `value` is the quantity, for 05 the bit's value, for 06 the word's.
-#[unsafe(no_mangle)]
-pub extern "C" fn montrakit_build(
+pub fn montrakit_build(
     station: u8,
     function: u8,
     start: u16,
@@ -75,8 +72,7 @@ pub extern "C" fn montrakit_build(
 }
 
 // Reads a reply beside the fields of its request, as `master::read_reply` does.
-#[unsafe(no_mangle)]
-pub extern "C" fn montrakit_read(
+pub fn montrakit_read(
     station: u8,
     function: u8,
     start: u16,

@@ -1,7 +1,7 @@
 // What is answered, as one number: kind × 65,536 + number.
 ghost use Rattle.std.specs.Prelude.{◌≡◌, ◌≤◌};
 ghost use Rattle.slave.specs.Answer.{to_send};
-ghost use Rattle.montrakit.specs.Results.{result, most_number, bad_argument, outcome_result, built_result, reading_result, unknown_function, bytes_built, bytes_read};
+ghost use Rattle.montrakit.specs.Results.{result as one_number, most_number, bad_argument, outcome_result, built_result, reading_result, unknown_function, bytes_built, bytes_read};
 
 use master::{Built, Reading};
 use slave::Outcome;
@@ -30,14 +30,14 @@ pub(crate) const STATE: u32 = 2;
 
 pub(crate) fn bad_argument(number: u32) -> u32
     requires { number ≤ most_number }
-    ensures* { λ r. ⌜ r ≡ result bad_argument number ⌝ }
+    ensures { result ≡ one_number bad_argument number }
 {
     result_of(BAD_ARGUMENT, number)
 }
 
 // Of a function number that names none.
 pub(crate) fn unknown_function() -> u32
-    ensures* { λ r. ⌜ r ≡ unknown_function ⌝ }
+    ensures { result ≡ unknown_function }
 {
     result_of(
         REFUSED,
@@ -47,7 +47,7 @@ pub(crate) fn unknown_function() -> u32
 
 pub(crate) fn outcome(outcome: Outcome) -> u32
     requires { to_send outcome ≤ most_number }
-    ensures* { λ r. ⌜ r ≡ outcome_result outcome ⌝ }
+    ensures { result ≡ outcome_result outcome }
 {
     match outcome {
         Outcome::Refused(why) => result_of(REFUSED, slave::refusal_number(why) as u32),
@@ -59,7 +59,7 @@ pub(crate) fn outcome(outcome: Outcome) -> u32
 
 pub(crate) fn built(built: Built) -> u32
     requires { bytes_built built ≤ most_number }
-    ensures* { λ r. ⌜ r ≡ built_result built ⌝ }
+    ensures { result ≡ built_result built }
 {
     match built {
         Built::Refused(why) => result_of(REFUSED, master::refusal_number(why) as u32),
@@ -69,7 +69,7 @@ pub(crate) fn built(built: Built) -> u32
 
 pub(crate) fn reading(reading: Reading) -> u32
     requires { bytes_read reading ≤ most_number }
-    ensures* { λ r. ⌜ r ≡ reading_result reading ⌝ }
+    ensures { result ≡ reading_result reading }
 {
     match reading {
         Reading::Refused(why) => result_of(REFUSED, master::refusal_number(why) as u32),
@@ -81,7 +81,7 @@ pub(crate) fn reading(reading: Reading) -> u32
 
 fn result_of(kind: u32, number: u32) -> u32
     requires { (kind ≤ 7) × (number ≤ most_number) }
-    ensures* { λ r. ⌜ r ≡ result kind number ⌝ }
+    ensures { result ≡ one_number kind number }
 {
     kind * 65536 + number
 }
