@@ -28,7 +28,7 @@ if [ -n "${MONTRAKIT_LIB:-}" ]; then
     library=$MONTRAKIT_LIB/libmontrakit.a
 else
     library=target/staticlib/libmontrakit.a
-    quietly library rt staticlib montrakit
+    quietly library host/library
 fi
 [ -f "$library" ] || {
     echo "there is no $library" >&2

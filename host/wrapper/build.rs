@@ -1,5 +1,5 @@
 //! Links libmontrakit.a from the folder that MONTRAKIT_LIB names, or else from target/staticlib of the
-//! repository, where `rt staticlib montrakit` puts it.
+//! repository, where `host/library` puts it.
 
 use std::env;
 use std::path::{Path, PathBuf};
@@ -25,6 +25,6 @@ fn main() {
     if !archive.is_file() {
         let place = archive.display();
         println!("cargo::warning=there is no {place}: types can be checked, but nothing linked");
-        println!("cargo::warning=`rt staticlib montrakit` makes it in target/staticlib; MONTRAKIT_LIB names another folder");
+        println!("cargo::warning=`host/library` makes it in target/staticlib; MONTRAKIT_LIB names another folder");
     }
 }

@@ -10,7 +10,7 @@ ghost use Rattle.master.specs.Refusals.{OutOfLimits};
 ghost use Rattle.master.specs.Reading.{SpareBits0, Left};
 ghost use Rattle.master.specs.Fitting.{FitFound, CodeFound, Takeable};
 
-use crate::{Reading, Refusal, Request, limits, spare};
+use crate::{Reading, Refusal, Request, limits, put, spare};
 use frames::{Act, Code, HEAD, Width};
 
 // The fewest bytes of a reply.
@@ -141,7 +141,7 @@ pub(crate) fn take_data(reading: Reading, reply: &[u8], buffer: &mut [u8])
     match reading {
         Reading::Refused(_) => {}
         Reading::Data(bytes) => {
-            buffer[..bytes].copy_from_slice(&reply[HEAD..HEAD + bytes]);
+            put::copy(&reply[HEAD..HEAD + bytes], buffer);
         }
         Reading::Written => {}
         Reading::Exception(_) => {}

@@ -6,7 +6,7 @@ ghost use Rattle.frames.specs.declared.Act.TheVariants.{WriteRun};
 ghost use Rattle.frames.specs.Limits.{bytes_for};
 ghost use Rattle.master.specs.Requests.{function_number, width_of, act, request_head, data_size};
 ghost use Rattle.master.specs.Refusals.{least_room, OutOfLimits};
-ghost use Rattle.master.specs.Building.{PackedAgain, RequestPut};
+ghost use Rattle.master.specs.Building.{over, PackedAgain, RequestPut};
 ghost use Rattle.master.specs.Putting.{RunPut, PlainPut};
 
 use crate::{Request, spare};
@@ -68,13 +68,23 @@ fn put_data(width: Width, count: u16, carried: &[u8], buffer: &mut [u8])
     ensures { Filled (length carried.now) (PackedAgain width count carried.now)
         buffer.old buffer.new }
 {
-    buffer[..carried.len()].copy_from_slice(carried);
+    copy(carried, buffer);
     match width {
         Width::Bit => {
             let last = carried.len() - 1;
             buffer[last] = spare::without_spare_bits(count, carried[last]);
         }
         Width::Word => {}
+    }
+}
+
+// Copies bytes over the start of a buffer, one by one: the slice's own call would need a symbol of a C library.
+pub(crate) fn copy(bytes: &[u8], buffer: &mut [u8])
+    requires { length bytes.now ≤ length buffer.old }
+    ensures { buffer.new ≡ over bytes.now buffer.old }
+{
+    for i in 0..bytes.len() {
+        buffer[i] = bytes[i];
     }
 }
 

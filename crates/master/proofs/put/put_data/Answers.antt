@@ -22,7 +22,7 @@ returns-in-Bit c =
     let size : length xs ≡ bytes_for_bits count = rw c.in-Bit.is at c.requires.1 in
     rw c.in-Bit.is
     (filled_start (length xs) _ (spare_off count xs) c.args.buffer.now _ (length-set xs _ _) (omega arith)
-    (rw (c.copy_from_slice.ensures.after, c.without_spare_bits.ensures)
+    (rw (c.copy.ensures, c.without_spare_bits.ensures)
     (set-append_left xs _ _ _ (omega (arith, size))))
     (bits_packed_again count xs (λ i. (c.type_inv.carried i).fits) size (omega arith)))
 
@@ -31,5 +31,5 @@ returns-in-Word c =
     let xs = c.args.carried.now in
     let size : length xs ≡ bytes_for_words c.args.count = rw c.in-Word.is at c.requires.1 in
     rw c.in-Word.is
-    (filled_start (length xs) _ xs c.args.buffer.now _ refl (omega arith) (rw c.copy_from_slice.ensures.after refl)
+    (filled_start (length xs) _ xs c.args.buffer.now _ refl (omega arith) (rw c.copy.ensures refl)
     (words_packed_again c.args.count xs (λ i. (c.type_inv.carried i).fits) size))
