@@ -13,7 +13,7 @@ begins_so : (κs : _) (a : _) (r : _) (s : _) → registers-at-first.Post κs a 
 begins_so κs a r s p = p
 
 passes_blocks : (κs : _) (a : _) (r : _) (s : _) → answer-block.Post κs a r s
-    → BlockPassed a.0.now a.1.0.now a.1.1.0 a.1.1.1.0.now s.1.0.now s.1.1.1.0.now r
+    → BlockPassed a.1.0.now a.1.1.0.now a.1.1.1.0 a.1.1.1.1.0.now s.1.1.0.now s.1.1.1.1.0.now r
 passes_blocks κs a r s p = p.1
 
 ends_so : (κs : _) (a : _) (r : _) (s : _) → answer-last.Post κs a r s

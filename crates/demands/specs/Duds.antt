@@ -7,7 +7,6 @@ use Rattle.frames.specs.declared.Width.TheVariants.{Word}
 use Rattle.frames.specs.Limits.{reply_length}
 use Rattle.slave.specs.declared.Refusal.{Refusal}
 use Rattle.slave.specs.declared.Silence.{Silence}
-use Rattle.slave.specs.declared.Silence.TheVariants as Silence
 use Rattle.slave.specs.declared.Outcome.TheVariants.{Refused, Silent, Reply}
 use Rattle.slave.specs.Answer.{over, Call, Answer}
 use Rattle.demands.specs.Terms.{Slave, Unchanged}

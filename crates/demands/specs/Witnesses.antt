@@ -3,7 +3,7 @@
 -- Assumes nothing.
 use Rattle.std.specs.Prelude.{List, [], ◌∷◌, ◌++◌, ℕ, replicate}
 use Rattle.check_word.specs.Line.{Damaged, ExactlyTwo, OddInNumber, InsideWindow, differ_at}
-use Rattle.areas.specs.declared.Access.TheVariants.{ReadOnly, ReadWrite}
+use Rattle.areas.specs.declared.Access.TheVariants.{ReadWrite}
 use Rattle.areas.specs.declared.Area.{Area}
 use Rattle.frames.specs.declared.Code.TheVariants as Code
 use Rattle.slave.specs.declared.Counting.TheVariants.{ModBus, JBus}

@@ -5,7 +5,6 @@ use Rattle.frames.specs.declared.Act.{Act}
 use Rattle.frames.specs.declared.Act.TheVariants.{Read, WriteOne, WriteRun}
 use Rattle.slave.specs.declared.Refusal.{Refusal}
 use Rattle.slave.specs.declared.Outcome.{Outcome}
-use Rattle.slave.specs.declared.Outcome.TheVariants as Outcome
 use Rattle.slave.specs.Numbers.{Kind, silence, exception, accepted}
 use Rattle.slave.specs.Conditions.{counted_from0}
 use Rattle.slave.specs.Answer.{Shown, over, Call, Answer}

@@ -5,7 +5,6 @@ use Rattle.frames.specs.Limits.{most, BitValue}
 use Rattle.master.specs.declared.Function.TheVariants.{WriteBit05}
 use Rattle.master.specs.declared.Request.{Request}
 use Rattle.master.specs.declared.Refusal.{Refusal}
-use Rattle.master.specs.declared.Refusal.TheVariants as Refusal
 use Rattle.master.specs.Requests.{act, width, quantity}
 
 abbrev pub refusal_number : Refusal → ℕ

@@ -8,15 +8,12 @@ use Rattle.areas.specs.declared.Area.{Area}
 use Rattle.frames.specs.Fields.{byte}
 use Rattle.slave.specs.declared.Station.{Station}
 use Rattle.slave.specs.declared.Outcome.{Outcome}
-use Rattle.slave.specs.declared.Outcome.TheVariants as Outcome
 use Rattle.slave.specs.Answer.{to_send}
 use Rattle.slave.specs.Answer as slave
 use Rattle.slave.proofs.Laws as slave-laws
 use Rattle.master.specs.declared.Request.{Request}
 use Rattle.master.specs.declared.Built.{Built}
-use Rattle.master.specs.declared.Built.TheVariants as Built
 use Rattle.master.specs.declared.Reading.{Reading}
-use Rattle.master.specs.declared.Reading.TheVariants as Reading
 use Rattle.master.specs.Building as building
 use Rattle.master.specs.Reading as reading
 use Rattle.master.proofs.Laws as master-laws

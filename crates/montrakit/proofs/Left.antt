@@ -14,7 +14,6 @@ use Rattle.slave.specs.declared.Refusal.{Refusal}
 use Rattle.slave.specs.declared.Outcome.{Outcome}
 use Rattle.slave.specs.declared.Outcome.TheVariants.{Refused, Silent, Exception, Reply}
 use Rattle.slave.specs.Numbers.{Kind, kind_of}
-use Rattle.slave.specs.Numbers as Kind
 use Rattle.slave.specs.Conditions.{BreaksARule}
 use Rattle.slave.specs.Table.{table, FirstDecides}
 use Rattle.slave.specs.Answer as slave

@@ -5,23 +5,17 @@ use mathlib.Core.Logic.{◌≢◌}
 use Prim.Native.Nat.{ℕ, ◌≤◌}
 use native.Mathlib.Omega.{arith}
 use Rattle.frames.specs.declared.Code.{Code}
-use Rattle.frames.specs.declared.Code.TheVariants as Code
 use Rattle.frames.specs.Exceptions.{code_number}
 use Rattle.frames.proofs.Laws as frames-laws
 use Rattle.slave.specs.declared.Refusal.{Refusal}
-use Rattle.slave.specs.declared.Refusal.TheVariants as Refusal
 use Rattle.slave.specs.declared.Silence.{Silence}
-use Rattle.slave.specs.declared.Silence.TheVariants as Silence
 use Rattle.slave.specs.declared.Outcome.{Outcome}
-use Rattle.slave.specs.declared.Outcome.TheVariants as Outcome
 use Rattle.slave.specs.Numbers as slave
 use Rattle.slave.specs.Answer.{to_send}
 use Rattle.slave.proofs.Laws as slave-laws
 use Rattle.master.specs.declared.Refusal as Unread
 use Rattle.master.specs.declared.Built.{Built}
-use Rattle.master.specs.declared.Built.TheVariants as Built
 use Rattle.master.specs.declared.Reading.{Reading}
-use Rattle.master.specs.declared.Reading.TheVariants as Reading
 use Rattle.master.specs.Refusals as master
 use Rattle.master.proofs.Laws as master-laws
 use Rattle.montrakit.specs.Results.{result, kind_in, number_in, most_number, outcome_result, built_result, reading_result, bytes_built, bytes_read}

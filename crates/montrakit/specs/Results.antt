@@ -3,12 +3,9 @@
 use Rattle.std.specs.Prelude.{ℕ, ◌+◌, ◌*◌, ◌/◌, ◌%◌}
 use Rattle.frames.specs.Exceptions.{code_number}
 use Rattle.slave.specs.declared.Outcome.{Outcome}
-use Rattle.slave.specs.declared.Outcome.TheVariants as Outcome
 use Rattle.slave.specs.Numbers as slave
 use Rattle.master.specs.declared.Built.{Built}
-use Rattle.master.specs.declared.Built.TheVariants as Built
 use Rattle.master.specs.declared.Reading.{Reading}
-use Rattle.master.specs.declared.Reading.TheVariants as Reading
 use Rattle.master.specs.declared.Refusal.TheVariants as Refusal
 use Rattle.master.specs.Refusals as master
 

@@ -1,0 +1,13 @@
+-- `answer_frame` meets its contract: the slave's answer is written, and has room.
+-- Assumes nothing.
+use Rattle.std.proofs.Common.{refl, arith}
+use Rattle.bench.proofs.Fits.{answer_fits}
+use Rattle.bench.proofs.Standing.{written_stands}
+use Rattle.bench.proofs.answer.answer_frame.Goals as goal
+
+pub returns : goal.returns
+returns c =
+    let allowed = rw c.two_areas.ensures at c.respond_by_value-outcome.ensures in
+    let fits = answer_fits _ _ allowed in
+    written_stands _ _ _ _ _ c.write_outcome.ensures (omega (arith, fits, c.requires))
+    (record { answer = _; allowed = allowed; registers = refl; written = refl })
