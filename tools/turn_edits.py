@@ -18,7 +18,7 @@ from concurrent.futures import ThreadPoolExecutor
 
 COMMIT, FOLDER = sys.argv[1], os.path.abspath(sys.argv[2])
 ROOT = os.path.abspath(".")
-PORT = "/opt/rattle/port/port.py"
+PORT = os.path.join(os.path.dirname(subprocess.run(["rt", "doc"], capture_output=True, text=True).stdout.strip()), "port", "port.py")
 
 
 def sh(*words, cwd):
@@ -52,7 +52,7 @@ def turned(path):
     sh("git", "-c", "user.name=x", "-c", "user.email=x@x", "commit", "-qam", "edits", cwd=path)
     mine = path + ".port.py"
     text = open(PORT, encoding="utf-8").read()
-    text = text.replace("os.path.dirname(os.path.realpath(__file__))", '"/opt/rattle/port"').replace('"/tmp/port-said"', f'"{path}.said"')
+    text = text.replace("os.path.dirname(os.path.realpath(__file__))", repr(os.path.dirname(PORT))).replace('"/tmp/port-said"', f'"{path}.said"')
     open(mine, "w", encoding="utf-8").write(text)
     r = sh(sys.executable, mine, cwd=path)
     open(path + ".log", "w").write(r.stdout + r.stderr)

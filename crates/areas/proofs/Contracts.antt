@@ -1,5 +1,5 @@
 -- The laws on answers, of the contracts as the source has them: what `survey` ensures is `Promised`, and it requires nothing; of
--- `survey_words` `Post` is what it ensures, `Pre` what it requires. `a` are the arguments: `now a.0` is the list, `a.1.0` the
+-- `survey_words` `Post` is what it ensures, `Pre` what it requires. `a` are the arguments: `a.0.now` is the list, `a.1.0` the
 -- image's number of words, `a.1.1.0` the run; `r` is the result, `s` are the parameters as the call leaves them.
 -- Assumes nothing.
 use mathlib.Core.Path.{◌≡◌, refl}
