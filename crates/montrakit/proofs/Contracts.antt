@@ -15,10 +15,10 @@ use Rattle.montrakit.proofs.montrakit_read.Reads as read
 
 -- ---- each determines what is told, and what was lent to it
 
-check_word_determined : (κs : _) (a : _) (x y : ℕ) (s t : _) → check-word.Post κs a x s → check-word.Post κs a y t → x ≡ y
+pub check_word_determined : (κs : _) (a : _) (x y : ℕ) (s t : _) → check-word.Post κs a x s → check-word.Post κs a y t → x ≡ y
 check_word_determined κs a x y s t = equal_determined _ x y
 
-respond_determined : (κs : _) (a : _) (x y : ℕ) (s t : _) → respond.Post κs a x s → respond.Post κs a y t
+pub respond_determined : (κs : _) (a : _) (x y : ℕ) (s t : _) → respond.Post κs a x s → respond.Post κs a y t
     → ◌≡◌ {A = ℕ × List ℕ × List ℕ} (x, s.1.1.1.1.1.0.now, s.1.1.1.1.1.1.0.now)
     (y, t.1.1.1.1.1.0.now, t.1.1.1.1.1.1.0.now)
 respond_determined κs a x y s t =
@@ -26,13 +26,13 @@ respond_determined κs a x y s t =
     a.1.1.1.1.1.1.0.now (x, s.1.1.1.1.1.0.now, s.1.1.1.1.1.1.0.now)
     (y, t.1.1.1.1.1.0.now, t.1.1.1.1.1.1.0.now)
 
-build_determined : (κs : _) (a : _) (x y : ℕ) (s t : _) → build.Post κs a x s → build.Post κs a y t
+pub build_determined : (κs : _) (a : _) (x y : ℕ) (s t : _) → build.Post κs a x s → build.Post κs a y t
     → ◌≡◌ {A = ℕ × List ℕ} (x, s.1.1.1.1.1.0.now) (y, t.1.1.1.1.1.0.now)
 build_determined κs a x y s t =
     laws.BuildDetermined a.0 a.1.0 a.1.1.0 a.1.1.1.0 a.1.1.1.1.0.now a.1.1.1.1.1.0.now
     (x, s.1.1.1.1.1.0.now) (y, t.1.1.1.1.1.0.now)
 
-read_determined : (κs : _) (a : _) (x y : ℕ) (s t : _) → read.Post κs a x s → read.Post κs a y t
+pub read_determined : (κs : _) (a : _) (x y : ℕ) (s t : _) → read.Post κs a x s → read.Post κs a y t
     → ◌≡◌ {A = ℕ × List ℕ} (x, s.1.1.1.1.1.0.now) (y, t.1.1.1.1.1.0.now)
 read_determined κs a x y s t =
     laws.ReadDetermined a.0 a.1.0 a.1.1.0 a.1.1.1.0 a.1.1.1.1.0.now a.1.1.1.1.1.0.now

@@ -3,5 +3,5 @@ mod Results
 mod Determined
 mod Left
 pub mod Laws
-mod Contracts
+pub mod Contracts
 mod Witnesses

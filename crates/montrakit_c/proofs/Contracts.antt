@@ -1,8 +1,8 @@
 -- What each function of the library ensures is what the face's function of that name ensures (`Post`), and it requires nothing (`Pre`), as
 -- the source has both contracts. So the face's laws hold of what a C program calls.
 -- Assumes nothing.
-use Rattle.std.proofs.Common.{◌≡◌, ◌∙◌, sym, ℕ, List}
-use Rattle.montrakit.proofs.Laws as laws
+use Rattle.std.proofs.Common.{◌≡◌, ℕ, List}
+use Rattle.montrakit.proofs.Contracts as face
 use Rattle.montrakit.proofs.montrakit_check_word.Reads as face_check_word
 use Rattle.montrakit.proofs.montrakit_respond.Reads as face_respond
 use Rattle.montrakit.proofs.montrakit_build.Reads as face_build
@@ -24,30 +24,23 @@ build_ensures κs a r s told = told
 read_ensures : (κs : _) (a : _) (r : ℕ) (s : _) → read.Post κs a r s → face_read.Post κs a r s
 read_ensures κs a r s told = told
 
--- ---- each determines what is told, and what was lent to it (`x` and `y` are told, `s` and `t` are the parameters as the call leaves them)
+-- ---- each determines what is told, and what was lent to it, since the face's does (`x` and `y` are told, `s` and `t` are the parameters as
+-- the call leaves them)
 
 check_word_determined : (κs : _) (a : _) (x y : ℕ) (s t : _) → check_word.Post κs a x s → check_word.Post κs a y t → x ≡ y
-check_word_determined κs a x y s t p q = p ∙ sym q
+check_word_determined κs a x y s t = face.check_word_determined κs a x y s t
 
 respond_determined : (κs : _) (a : _) (x y : ℕ) (s t : _) → respond.Post κs a x s → respond.Post κs a y t
-    → ◌≡◌ {A = ℕ × List ℕ × List ℕ} (x, s.1.1.1.1.1.0.now, s.1.1.1.1.1.1.0.now)
-    (y, t.1.1.1.1.1.0.now, t.1.1.1.1.1.1.0.now)
-respond_determined κs a x y s t =
-    laws.RespondDetermined a.0 a.1.0 a.1.1.0 a.1.1.1.0.now a.1.1.1.1.0.now a.1.1.1.1.1.0.now
-    a.1.1.1.1.1.1.0.now (x, s.1.1.1.1.1.0.now, s.1.1.1.1.1.1.0.now)
-    (y, t.1.1.1.1.1.0.now, t.1.1.1.1.1.1.0.now)
+    → ◌≡◌ {A = ℕ × List ℕ × List ℕ} (x, s.1.1.1.1.1.0.now, s.1.1.1.1.1.1.0.now) (y, t.1.1.1.1.1.0.now, t.1.1.1.1.1.1.0.now)
+respond_determined κs a x y s t = face.respond_determined κs a x y s t
 
 build_determined : (κs : _) (a : _) (x y : ℕ) (s t : _) → build.Post κs a x s → build.Post κs a y t
     → ◌≡◌ {A = ℕ × List ℕ} (x, s.1.1.1.1.1.0.now) (y, t.1.1.1.1.1.0.now)
-build_determined κs a x y s t =
-    laws.BuildDetermined a.0 a.1.0 a.1.1.0 a.1.1.1.0 a.1.1.1.1.0.now a.1.1.1.1.1.0.now
-    (x, s.1.1.1.1.1.0.now) (y, t.1.1.1.1.1.0.now)
+build_determined κs a x y s t = face.build_determined κs a x y s t
 
 read_determined : (κs : _) (a : _) (x y : ℕ) (s t : _) → read.Post κs a x s → read.Post κs a y t
     → ◌≡◌ {A = ℕ × List ℕ} (x, s.1.1.1.1.1.0.now) (y, t.1.1.1.1.1.0.now)
-read_determined κs a x y s t =
-    laws.ReadDetermined a.0 a.1.0 a.1.1.0 a.1.1.1.0 a.1.1.1.1.0.now a.1.1.1.1.1.0.now
-    (x, s.1.1.1.1.1.0.now) (y, t.1.1.1.1.1.0.now)
+read_determined κs a x y s t = face.read_determined κs a x y s t
 
 -- ---- each takes any arguments
 
