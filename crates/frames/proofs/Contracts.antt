@@ -5,7 +5,11 @@ use mathlib.Core.Path.{◌≡◌}
 use mathlib.Core.Bool.{Bool}
 use Prim.Native.Nat.{ℕ}
 use Rattle.promise.proofs.Promise.{equal_determined}
-use Rattle.frames.specs.declared.Lookup.{Lookup}
+use Rattle.std.specs.Prelude.{Option, Result}
+use Rattle.frames.specs.declared.Act.{Act}
+use Rattle.frames.specs.declared.Width.{Width}
+use Rattle.frames.specs.declared.Code.{Code}
+use Rattle.frames.specs.declared.NoCode.{NoCode}
 use Rattle.frames.proofs.Laws as laws
 use Rattle.frames.proofs.byte_at.Reads as byte_at
 use Rattle.frames.proofs.number_at.Reads as number_at
@@ -16,7 +20,8 @@ use Rattle.frames.proofs.bytes_for.Reads as bytes-for
 use Rattle.frames.proofs.request_length.Reads as request_length_lem
 use Rattle.frames.proofs.reply_length.Reads as reply_length
 use Rattle.frames.proofs.is_bit_value.Reads as is-bit-value
-use Rattle.frames.proofs.code_number.Reads as code-number
+use Rattle.frames.proofs.U8FromCode.from.Reads as code-number
+use Rattle.frames.proofs.CodeTryFromU8.try_from.Reads as code-with
 use Rattle.frames.proofs.top_bit_set.Reads as top-bit-set
 
 -- ---- each determines its answer
@@ -27,7 +32,7 @@ byte_at_determined κs a x y s t = equal_determined _ x y
 number_at_determined : (κs : _) (a : _) (x y : ℕ) (s t : _) → number_at.Post κs a x s → number_at.Post κs a y t → x ≡ y
 number_at_determined κs a x y s t = equal_determined _ x y
 
-function_of_determined : (κs : _) (a : _) (x y : Lookup) (s t : _) → Function-of.Post κs a x s → Function-of.Post κs a y t → x ≡ y
+function_of_determined : (κs : _) (a : _) (x y : Option (Act × Width)) (s t : _) → Function-of.Post κs a x s → Function-of.Post κs a y t → x ≡ y
 function_of_determined κs a x y s t = equal_determined _ x y
 
 quantity_of_determined : (κs : _) (a : _) (x y : ℕ) (s t : _) → quantity-of.Post κs a x s → quantity-of.Post κs a y t → x ≡ y
@@ -50,6 +55,9 @@ is_bit_value_determined κs a x y s t = laws.IsBitValueDetermined a.0 x y
 
 code_number_determined : (κs : _) (a : _) (x y : ℕ) (s t : _) → code-number.Post κs a x s → code-number.Post κs a y t → x ≡ y
 code_number_determined κs a x y s t = equal_determined _ x y
+
+code_with_determined : (κs : _) (a : _) (x y : Result Code NoCode) (s t : _) → code-with.Post κs a x s → code-with.Post κs a y t → x ≡ y
+code_with_determined κs a x y s t = laws.CodeIsDetermined a.0 x y
 
 top_bit_set_determined : (κs : _) (a : _) (x y : ℕ) (s t : _) → top-bit-set.Post κs a x s → top-bit-set.Post κs a y t → x ≡ y
 top_bit_set_determined κs a x y s t = equal_determined _ x y
@@ -85,6 +93,9 @@ is_bit_value_takes κs a = tt
 
 code_number_takes : (κs : _) (a : _) → code-number.Pre κs a
 code_number_takes κs a = tt
+
+code_with_takes : (κs : _) (a : _) → code-with.Pre κs a
+code_with_takes κs a = tt
 
 top_bit_set_takes : (κs : _) (a : _) → top-bit-set.Pre κs a
 top_bit_set_takes κs a = tt

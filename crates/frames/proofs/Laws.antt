@@ -1,6 +1,7 @@
 -- The laws of the frames, as specs/Laws.antt states them.
 -- Assumes nothing.
-use mathlib.Core.Path.{◌≡◌, refl}
+use mathlib.Core.Path.{◌≡◌, refl, sym, ap, ◌∙◌}
+use Rattle.std.specs.Prelude.{Ok, Err}
 use Prim.Native.Nat.{ℕ, ◌+◌, ◌%◌, ◌<◌}
 use native.Mathlib.Omega.{arith}
 use borrow.Author.Tests.{ne_eqb}
@@ -57,3 +58,9 @@ RequestLengths WriteRun Word count frame few counted = (omega arith, omega (arit
 
 pub IsBitValueDetermined : laws.IsBitValueDetermined
 IsBitValueDetermined value = decides_determined (BitValue value)
+
+pub CodeIsDetermined : laws.CodeIsDetermined
+CodeIsDetermined number (Ok a) (Ok b) p q = ap Ok (CodesApart a b (sym p ∙ q))
+CodeIsDetermined number (Ok a) (Err e) p q = absurd (q a p)
+CodeIsDetermined number (Err e) (Ok b) p q = absurd (p b q)
+CodeIsDetermined number (Err e) (Err f) p q = refl

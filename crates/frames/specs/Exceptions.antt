@@ -1,8 +1,9 @@
 -- Exceptions: their codes, and the form of their frame.
 -- Assumes nothing.
-use Rattle.std.specs.Prelude.{List, [], ◌∷◌, ℕ, ◌+◌, ◌%◌}
+use Rattle.std.specs.Prelude.{◌≡◌, ◌≢◌, List, [], ◌∷◌, Result, Ok, Err, ℕ, ◌+◌, ◌%◌}
 use Rattle.check_word.specs.Frame.{framed}
 use Rattle.frames.specs.declared.Code.{Code}
+use Rattle.frames.specs.declared.NoCode.{NoCode}
 use Rattle.frames.specs.declared.Code.TheVariants.{Function, Address, Value, NotReady, ReadOnly}
 
 -- the numbers of the codes
@@ -12,6 +13,11 @@ code_number Address = 2
 code_number Value = 3
 code_number NotReady = 4
 code_number ReadOnly = 8
+
+-- the code with this number, or that there is none
+abbrev pub CodeIs : ℕ → Result Code NoCode → Type 0
+CodeIs number (Ok code) = number ≡ code_number code
+CodeIs number (Err none) = (code : Code) → number ≢ code_number code
 
 -- a function with its top bit set: 03 becomes 83, and 83 stays 83
 unfoldable pub top_bit_set : ℕ → ℕ

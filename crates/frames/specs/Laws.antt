@@ -1,16 +1,15 @@
 -- The laws of the frames, each proved under its name in proofs/Laws.antt.
 -- Assumes nothing.
-use Rattle.std.specs.Prelude.{◌≡◌, List, ℕ, ◌+◌, ◌≤◌, ◌<◌, length}
+use Rattle.std.specs.Prelude.{◌≡◌, List, None, ℕ, ◌+◌, ◌≤◌, ◌<◌, length}
 use Rattle.promise.specs.Promise.{Determined, Decides}
 use Rattle.frames.specs.declared.Act.{Act}
 use Rattle.frames.specs.declared.Act.TheVariants.{WriteRun}
 use Rattle.frames.specs.declared.Width.{Width}
-use Rattle.frames.specs.declared.Lookup.TheVariants.{NotInTable}
 use Rattle.frames.specs.declared.Code.{Code}
 use Rattle.frames.specs.Fields.{byte_count_field}
 use Rattle.frames.specs.Functions.{function_of}
 use Rattle.frames.specs.Limits.{most, bytes_for, request_length, reply_length, BitValue}
-use Rattle.frames.specs.Exceptions.{code_number, top_bit_set, exception_frame, exception_length}
+use Rattle.frames.specs.Exceptions.{code_number, CodeIs, top_bit_set, exception_frame, exception_length}
 
 -- 01 and 02 act alike, and so do 03 and 04
 abbrev pub Alike : Type 0
@@ -23,7 +22,7 @@ TopBit = (function : ℕ) → function < 256
 
 -- a function with its top bit set is never a function of the table
 abbrev pub TopBitNoFunction : Type 0
-TopBitNoFunction = (function : ℕ) → function_of (top_bit_set function) ≡ NotInTable
+TopBitNoFunction = (function : ℕ) → function_of (top_bit_set function) ≡ None
 
 -- each code has a number of its own
 abbrev pub CodesApart : Type 0
@@ -44,6 +43,9 @@ RequestLengths = (act : Act) (width : Width) (count : ℕ) (frame : List ℕ) �
     → (act ≡ WriteRun → byte_count_field frame ≡ bytes_for width count)
     → (8 ≤ request_length act frame) × (request_length act frame ≤ 169)
 
--- whether a value is a bit's is determined; all other promises of this crate name their answer
+-- whether a value is a bit's is determined, and so is the code with a number; all other promises of this crate name their answer
 abbrev pub IsBitValueDetermined : Type 0
 IsBitValueDetermined = (value : ℕ) → Determined (Decides (BitValue value))
+
+abbrev pub CodeIsDetermined : Type 0
+CodeIsDetermined = (number : ℕ) → Determined (CodeIs number)

@@ -2,13 +2,12 @@
 // exception codes. No public function has a `requires`. The contracts cite specs/.
 #![tactic(auto)]
 
-ghost use Rattle.std.specs.Prelude.{◌≡◌, ◌+◌, ◌<◌};
+ghost use Rattle.std.specs.Prelude.{◌≡◌};
 ghost use Rattle.promise.specs.Promise.{Decides};
-ghost use Rattle.frames.specs.declared.Act.TheVariants.{WriteOne};
 ghost use Rattle.frames.specs.Fields.{byte, number};
 ghost use Rattle.frames.specs.Functions.{function_of};
 ghost use Rattle.frames.specs.Limits.{quantity, most, most_of_a_run, bytes_for, request_length, reply_length, BitValue};
-ghost use Rattle.frames.specs.Exceptions.{code_number, top_bit_set};
+ghost use Rattle.frames.specs.Exceptions.{code_number, CodeIs, top_bit_set};
 
 // The fewest and the most bytes of a frame.
 pub const SHORTEST: usize = 4;
@@ -51,29 +50,22 @@ pub const ON: u16 = 0xff00;
 pub const OFF: u16 = 0x0000;
 
 // What a function addresses.
-#[derive(Clone, Copy)]
+#[derive(Clone, Copy, Debug, PartialEq, Eq)]
 pub enum Width {
     Bit,
     Word,
 }
 
 // What a function does: it reads a run, writes one bit or word, or writes a run.
-#[derive(Clone, Copy)]
+#[derive(Clone, Copy, Debug, PartialEq, Eq)]
 pub enum Act {
     Read,
     WriteOne,
     WriteRun,
 }
 
-// A function, if the number is one of the eight.
-#[derive(Clone, Copy)]
-pub enum Lookup {
-    Found(Act, Width),
-    NotInTable,
-}
-
 // What an exception says.
-#[derive(Clone, Copy)]
+#[derive(Clone, Copy, Debug, PartialEq, Eq)]
 pub enum Code {
     // The function is not in the table.
     Function,
@@ -86,27 +78,15 @@ pub enum Code {
     ReadOnly,
 }
 
+// A number that is no code's.
+#[derive(Clone, Copy, Debug, PartialEq, Eq)]
+pub struct NoCode;
+
 // Byte i; past the end, 0.
 pub fn byte_at(bytes: &[u8], i: usize) -> u8
     ensures { result ≡ byte bytes.now i }
 {
-    if bytes.len() <= i {
-        return 0;
-    }
-    bytes[i]
-}
-
-// Whether byte i and the next are there.
-fn are_two_at(len: usize, i: usize) -> bool
-    ensures { Decides (i + 1 < len) result }
-{
-    if len <= i {
-        return false;
-    }
-    if len - i == 1 {
-        return false;
-    }
-    true
+    bytes.get(i).copied().unwrap_or(0)
 }
 
 // The number of two bytes at i, high byte first; bytes past the end count as 0.
@@ -114,51 +94,35 @@ fn are_two_at(len: usize, i: usize) -> bool
 pub fn number_at(bytes: &[u8], i: usize) -> u16
     ensures { result ≡ number bytes.now i }
 {
-    if !are_two_at(bytes.len(), i) {
-        return byte_at(bytes, i) as u16 * 256;
-    }
-    let high = bytes[i] as u16;
-    let low = bytes[i + 1] as u16;
-    high * 256 + low
+    u16::from_be_bytes([byte_at(bytes, i), byte_at(bytes, i.saturating_add(1))])
 }
 
-// The function that a number stands for.
+// What the function with a number does, and to what, if the number is one of the eight.
 #[tactic(auto, unfolding(crate::specs::Functions::function_of))]
-pub fn function_of(number: u8) -> Lookup
+pub fn function_of(number: u8) -> Option<(Act, Width)>
     ensures { result ≡ function_of number }
 {
     match number {
-        0x01 => Lookup::Found(Act::Read, Width::Bit),
-        0x02 => Lookup::Found(Act::Read, Width::Bit),
-        0x03 => Lookup::Found(Act::Read, Width::Word),
-        0x04 => Lookup::Found(Act::Read, Width::Word),
-        0x05 => Lookup::Found(Act::WriteOne, Width::Bit),
-        0x06 => Lookup::Found(Act::WriteOne, Width::Word),
-        0x0f => Lookup::Found(Act::WriteRun, Width::Bit),
-        0x10 => Lookup::Found(Act::WriteRun, Width::Word),
-        _ => Lookup::NotInTable,
+        0x01 => Some((Act::Read, Width::Bit)),
+        0x02 => Some((Act::Read, Width::Bit)),
+        0x03 => Some((Act::Read, Width::Word)),
+        0x04 => Some((Act::Read, Width::Word)),
+        0x05 => Some((Act::WriteOne, Width::Bit)),
+        0x06 => Some((Act::WriteOne, Width::Word)),
+        0x0f => Some((Act::WriteRun, Width::Bit)),
+        0x10 => Some((Act::WriteRun, Width::Word)),
+        _ => None,
     }
 }
 
-// Whether a request is about one bit or word, and has no quantity.
-fn is_of_one(act: Act) -> bool
-    ensures { Decides (act ≡ WriteOne) result }
-{
-    match act {
-        Act::Read => false,
-        Act::WriteOne => true,
-        Act::WriteRun => false,
-    }
-}
-
-// How many bits or words a request is about.
+// How many bits or words a request is about: one has no quantity.
 pub fn quantity_of(act: Act, frame: &[u8]) -> u16
     ensures { result ≡ quantity act frame.now }
 {
-    if is_of_one(act) {
-        return 1;
+    match act {
+        Act::Read | Act::WriteRun => number_at(frame, QUANTITY_AT),
+        Act::WriteOne => 1,
     }
-    number_at(frame, QUANTITY_AT)
 }
 
 fn most_of_a_run(width: Width) -> u16
@@ -175,9 +139,8 @@ pub fn most_of(act: Act, width: Width) -> u16
     ensures { result ≡ most act width }
 {
     match act {
-        Act::Read => most_of_a_run(width),
+        Act::Read | Act::WriteRun => most_of_a_run(width),
         Act::WriteOne => 1,
-        Act::WriteRun => most_of_a_run(width),
     }
 }
 
@@ -196,12 +159,8 @@ pub fn request_length(act: Act, frame: &[u8]) -> usize
     ensures { result ≡ request_length act frame.now }
 {
     match act {
-        Act::Read => PLAIN_LENGTH,
-        Act::WriteOne => PLAIN_LENGTH,
-        Act::WriteRun => {
-            let bytes = byte_at(frame, BYTE_COUNT_AT);
-            9 + bytes as usize
-        }
+        Act::Read | Act::WriteOne => PLAIN_LENGTH,
+        Act::WriteRun => 9 + byte_at(frame, BYTE_COUNT_AT) as usize,
     }
 }
 
@@ -211,8 +170,7 @@ pub fn reply_length(act: Act, width: Width, count: u16) -> usize
 {
     match act {
         Act::Read => 5 + bytes_for(width, count),
-        Act::WriteOne => PLAIN_LENGTH,
-        Act::WriteRun => PLAIN_LENGTH,
+        Act::WriteOne | Act::WriteRun => PLAIN_LENGTH,
     }
 }
 
@@ -220,22 +178,39 @@ pub fn reply_length(act: Act, width: Width, count: u16) -> usize
 pub fn is_bit_value(value: u16) -> bool
     ensures { Decides (BitValue value) result }
 {
-    if value == ON {
-        return true;
-    }
-    value == OFF
+    value == ON || value == OFF
 }
 
-// The number of an exception code.
-pub fn code_number(code: Code) -> u8
-    ensures { result ≡ code_number code }
-{
-    match code {
-        Code::Function => 1,
-        Code::Address => 2,
-        Code::Value => 3,
-        Code::NotReady => 4,
-        Code::ReadOnly => 8,
+// The number of an exception code ..
+impl From<Code> for u8 {
+    ghost from_gives = { λ code number. number ≡ code_number code };
+
+    fn from(code: Code) -> u8 {
+        match code {
+            Code::Function => 1,
+            Code::Address => 2,
+            Code::Value => 3,
+            Code::NotReady => 4,
+            Code::ReadOnly => 8,
+        }
+    }
+}
+
+// .. and the code with a number.
+impl TryFrom<u8> for Code {
+    type Error = NoCode;
+
+    ghost try_from_gives = { CodeIs };
+
+    fn try_from(number: u8) -> Result<Code, NoCode> {
+        match number {
+            1 => Ok(Code::Function),
+            2 => Ok(Code::Address),
+            3 => Ok(Code::Value),
+            4 => Ok(Code::NotReady),
+            8 => Ok(Code::ReadOnly),
+            _ => Err(NoCode),
+        }
     }
 }
 
