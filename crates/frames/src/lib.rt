@@ -119,10 +119,10 @@ pub fn function_of(number: u8) -> Option<(Act, Width)>
 pub fn quantity_of(act: Act, frame: &[u8]) -> u16
     ensures { result ≡ quantity act frame.now }
 {
-    match act {
-        Act::Read | Act::WriteRun => number_at(frame, QUANTITY_AT),
-        Act::WriteOne => 1,
+    if act == Act::WriteOne {
+        return 1;
     }
+    number_at(frame, QUANTITY_AT)
 }
 
 fn most_of_a_run(width: Width) -> u16
