@@ -15,8 +15,7 @@ use Rattle.frames.specs.declared.Act.{Act}
 use Rattle.frames.specs.declared.Act.TheVariants.{Read, WriteOne, WriteRun}
 use Rattle.frames.specs.declared.Width.{Width}
 use Rattle.frames.specs.declared.Width.TheVariants.{Bit, Word}
-use Rattle.frames.specs.declared.Lookup.{Lookup}
-use Rattle.frames.specs.declared.Lookup.TheVariants.{Found, NotInTable}
+use Rattle.std.specs.Prelude.{Option, Some, None}
 use Rattle.frames.specs.Fields.{function_field, quantity_field, value_field, data_field, up_to_quantity}
 use Rattle.frames.specs.Functions.{function_of}
 use Rattle.frames.specs.Limits.{quantity, bytes_for, on}
@@ -76,10 +75,10 @@ module _ (first : ℕ) (frame image : List ℕ) (fit : FitIn word_bits image) wh
 
 module _ (call : Call) (fit : FitIn word_bits call.image) where
   -- the tenth line, E1, says that the function is not in the table
-  done_exists : NoneApplies (lines_of call) → (lookup : Lookup) → function_of (function_field call.frame) ≡ lookup
+  done_exists : NoneApplies (lines_of call) → (lookup : Option (Act × Width)) → function_of (function_field call.frame) ≡ lookup
       → (n : ℕ) × (image : List ℕ) × (reply : List ℕ) × OfFound lookup (IsDone call n image reply)
-  done_exists none NotInTable is = absurd (none.1.1.1.1.1.1.1.1.1.0 is)
-  done_exists none (Found act width) is =
+  done_exists none None is = absurd (none.1.1.1.1.1.1.1.1.1.0 is)
+  done_exists none (Some (act, width)) is =
       let frame = call.frame in
       let first = first_of call in
       let reads : Reads call.station frame (record { act = act; width = width; first = first; count = quantity act frame }) =

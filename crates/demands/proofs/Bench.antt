@@ -16,7 +16,7 @@ use Rattle.frames.specs.declared.Act.{Act}
 use Rattle.frames.specs.declared.Act.TheVariants.{Read, WriteOne, WriteRun}
 use Rattle.frames.specs.declared.Width.{Width}
 use Rattle.frames.specs.declared.Width.TheVariants.{Bit, Word}
-use Rattle.frames.specs.declared.Lookup.TheVariants.{Found}
+use Rattle.std.specs.Prelude.{Option, Some, None}
 use Rattle.frames.specs.declared.Code.{Code}
 use Rattle.frames.specs.Fields.{number, function_field, start_field, quantity_field, value_field, byte_count_field}
 use Rattle.frames.specs.Functions.{function_of}
@@ -127,7 +127,7 @@ module _ (function : ℕ) (rest : List ℕ) (fits : length rest ≤ 252) where
       past_address counting Ready
       (inr (λ e. apart state_place refl e (omega arith), inr (λ e. apart state_place refl e (omega arith), later)))
 
-  module _ (counting : Counting) (act : Act) (width : Width) (found : function_of function ≡ Found act width) where
+  module _ (counting : Counting) (act : Act) (width : Width) (found : function_of function ≡ Some (act, width)) where
     abbrev ready : List Line
     ready = lines counting Ready (ours function rest)
 
@@ -175,7 +175,7 @@ all_read_write width first count inside = (
 )
 
 module _ (counting : Counting) (act : Act) (width : Width) (function first : ℕ) (rest : List ℕ)
-    (found : function_of function ≡ Found act width) where
+    (found : function_of function ≡ Some (act, width)) where
   abbrev asked : List ℕ
   asked = request 20 function (start_for counting first) rest
 
@@ -219,7 +219,7 @@ module _ (counting : Counting) (act : Act) (width : Width) (function first : ℕ
 
 -- a read of as many bits or words as two bytes say
 pub read : (counting : Counting) (width : Width) (function first high low : ℕ) (shown : List ℕ)
-    → function_of function ≡ Found Read width → 1 ≤ high_first high low → high_first high low ≤ most_of_a_run width
+    → function_of function ≡ Some (Read, width) → 1 ≤ high_first high low → high_first high low ≤ most_of_a_run width
     → Inside width 8 first (high_first high low) → Shown width first (high_first high low) image shown
     → Replied (bench counting Ready (request 20 function (start_for counting first) (high ∷ low ∷ [])))
     (framed (20 ∷ function ∷ bytes_for width (high_first high low) ∷ shown)) image

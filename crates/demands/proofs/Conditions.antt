@@ -12,8 +12,7 @@ use Rattle.frames.specs.declared.Act.{Act}
 use Rattle.frames.specs.declared.Act.TheVariants.{Read, WriteOne, WriteRun}
 use Rattle.frames.specs.declared.Width.{Width}
 use Rattle.frames.specs.declared.Width.TheVariants.{Bit, Word}
-use Rattle.frames.specs.declared.Lookup.{Lookup}
-use Rattle.frames.specs.declared.Lookup.TheVariants.{Found, NotInTable}
+use Rattle.std.specs.Prelude.{Option, Some, None}
 use Rattle.frames.specs.Fields.{station_field, function_field, start_field, quantity_field, value_field, byte_count_field}
 use Rattle.frames.specs.Functions.{function_of}
 use Rattle.frames.specs.Limits.{quantity, most, bytes_for, request_length, on, off}
@@ -28,10 +27,10 @@ pub dec_another_station : (station : Station) (frame : List ℕ) → Dec (Anothe
 dec_another_station station frame =
     dec_or (ℕ_discrete (station_field frame) 0) (Dec.not (ℕ_discrete (station_field frame) station.own))
 
-dec_of_found : (lookup : Lookup) (Such : Act → Width → Type 0) → ((act : Act) (width : Width) → Dec (Such act width))
+dec_of_found : (lookup : Option (Act × Width)) (Such : Act → Width → Type 0) → ((act : Act) (width : Width) → Dec (Such act width))
     → Dec (OfFound lookup Such)
-dec_of_found (Found act width) Such told = told act width
-dec_of_found NotInTable Such told = no (λ none. none)
+dec_of_found (Some (act, width)) Such told = told act width
+dec_of_found None Such told = no (λ none. none)
 
 dec_of_function : (frame : List ℕ) {Such : Act → Width → Type 0} → ((act : Act) (width : Width) → Dec (Such act width))
     → Dec (OfFunction frame Such)

@@ -12,8 +12,7 @@ use Rattle.frames.specs.declared.Act.{Act}
 use Rattle.frames.specs.declared.Act.TheVariants.{Read, WriteOne, WriteRun}
 use Rattle.frames.specs.declared.Width.{Width}
 use Rattle.frames.specs.declared.Width.TheVariants.{Bit, Word}
-use Rattle.frames.specs.declared.Lookup.{Lookup}
-use Rattle.frames.specs.declared.Lookup.TheVariants.{Found, NotInTable}
+use Rattle.std.specs.Prelude.{Option, Some, None}
 use Rattle.slave.specs.declared.Counting.{Counting}
 use Rattle.slave.specs.declared.Counting.TheVariants.{ModBus, JBus}
 use Rattle.slave.specs.declared.State.{State}
@@ -47,6 +46,6 @@ pub dec_j_bus : (counting : Counting) → Dec (counting ≡ JBus)
 dec_j_bus ModBus = no (λ e. apart counting_place e refl (omega arith))
 dec_j_bus JBus = yes refl
 
-pub dec_not_in_table : (lookup : Lookup) → Dec (lookup ≡ NotInTable)
-dec_not_in_table (Found act width) = no (λ e. apart lookup_place e refl (omega arith))
-dec_not_in_table NotInTable = yes refl
+pub dec_not_in_table : (lookup : Option (Act × Width)) → Dec (lookup ≡ None)
+dec_not_in_table (Some (act, width)) = no (λ e. apart lookup_place e refl (omega arith))
+dec_not_in_table None = yes refl

@@ -11,8 +11,7 @@ use Rattle.frames.specs.declared.Act.{Act}
 use Rattle.frames.specs.declared.Act.TheVariants.{Read, WriteOne, WriteRun}
 use Rattle.frames.specs.declared.Width.{Width}
 use Rattle.frames.specs.declared.Width.TheVariants.{Bit, Word}
-use Rattle.frames.specs.declared.Lookup.{Lookup}
-use Rattle.frames.specs.declared.Lookup.TheVariants.{Found, NotInTable}
+use Rattle.std.specs.Prelude.{Option, Some, None}
 use Rattle.frames.specs.Fields.{quantity_field}
 use Rattle.slave.specs.declared.Outcome.{Outcome}
 use Rattle.slave.specs.declared.Outcome.TheVariants.{Refused, Silent, Exception, Reply}
@@ -25,9 +24,9 @@ use Rattle.slave.proofs.Laws.{RespondDetermined}
 use Rattle.demands.specs.Terms.{lines_of, Does, first_of, with_image, AcceptedRead, element, SameReply, AgreeOnWords, AgreeOnBits}
 use Rattle.demands.proofs.Left.{is_reply, IsDone, LeftBy, left_by, done, done_by}
 
-abbrev found_width : Lookup → ℕ
-found_width (Found act width) = width_place width
-found_width NotInTable = 0
+abbrev found_width : Option (Act × Width) → ℕ
+found_width (Some (act, width)) = width_place width
+found_width None = 0
 
 module _ (call : Call) (other : List ℕ) (a b : Answer) (here : Answers call a) (there : Answers (with_image other call) b)
     (as_long : length other ≡ length call.image) where
@@ -102,7 +101,7 @@ module _ (call : Call) (other : List ℕ) (a b : Answer) (here : Answers call a)
   pub agree_on_words : AgreeOnWords call other → SameReply a b
   agree_on_words agree = alike_by (λ width accepted does. run_over width (same_element agree width does))
 
-  same_bit : AgreeOnBits call other → (width : Width) → Found Read Bit ≡ Found Read width
+  same_bit : AgreeOnBits call other → (width : Width) → Some (Read, Bit) ≡ Some (Read, width)
       → (n : ℕ) → n < quantity_field call.frame
       → element width call.image (first_of call + n) ≡ element width other (first_of call + n)
   same_bit agree Bit e n h = agree (first_of call + n) (omega arith, omega arith)

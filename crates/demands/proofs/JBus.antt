@@ -8,8 +8,7 @@ use native.Mathlib.Omega.{arith}
 use lib.ListN.{length, drop}
 use Rattle.frames.specs.declared.Act.{Act}
 use Rattle.frames.specs.declared.Width.{Width}
-use Rattle.frames.specs.declared.Lookup.{Lookup}
-use Rattle.frames.specs.declared.Lookup.TheVariants.{Found, NotInTable}
+use Rattle.std.specs.Prelude.{Option, Some, None}
 use Rattle.frames.specs.Functions.{function_of}
 use Rattle.frames.specs.Limits.{quantity, bytes_for, BitValue}
 use Rattle.slave.specs.declared.Counting.TheVariants.{ModBus, JBus}
@@ -54,7 +53,7 @@ module _ (call : Call) (a f start : ℕ) (rest : List ℕ) where
       let one_higher = restarted_start a f rest (start + 1) in
       restarted_start a f rest start ∙ omega (arith, one_higher)
 
-  module _ (act : Act) (width : Width) (is : function_of f ≡ Found act width) where
+  module _ (act : Act) (width : Width) (is : function_of f ≡ Some (act, width)) where
     -- lines E2 and E8
     area_lines_same : Long a f rest act start → SameFrom 13
     area_lines_same long =
@@ -95,9 +94,9 @@ module _ (call : Call) (a f start : ℕ) (rest : List ℕ) where
     )
 
   -- the same, whatever the function; line E1 has told that it is known
-  function_lines : (lookup : Lookup) → function_of f ≡ lookup → (function_of f ≡ NotInTable → ⊥) → SameFrom 10
-  function_lines (Found act width) is known = request_lines_same act width is
-  function_lines NotInTable is known = absurd (known is)
+  function_lines : (lookup : Option (Act × Width)) → function_of f ≡ lookup → (function_of f ≡ None → ⊥) → SameFrom 10
+  function_lines (Some (act, width)) is known = request_lines_same act width is
+  function_lines None is known = absurd (known is)
 
   lengths : length mod_bus.frame ≡ length j_bus.frame
   lengths = restarted_length a f rest start ∙ sym (restarted_length a f rest (start + 1))

@@ -9,8 +9,7 @@ use lib.ListN.{length, take, drop, length-append, length-drop}
 use lib.Seq.{take_at, drop_at}
 use Rattle.frames.specs.declared.Act.{Act}
 use Rattle.frames.specs.declared.Width.{Width}
-use Rattle.frames.specs.declared.Lookup.{Lookup}
-use Rattle.frames.specs.declared.Lookup.TheVariants.{Found, NotInTable}
+use Rattle.std.specs.Prelude.{Option, Some, None}
 use Rattle.frames.specs.Fields.{function_field}
 use Rattle.frames.specs.Functions.{function_of}
 use Rattle.slave.specs.declared.Refusal.{Refusal}
@@ -62,10 +61,10 @@ sent_is answer bytes before size is =
 -- ---- the promise at an outcome, and at a function
 
 -- a fact on the frame's function names that function
-pub function_found : (lookup : Lookup) (Such : Act → Width → Type 0) → OfFound lookup Such
-    → (act : Act) × (width : Width) × (lookup ≡ Found act width) × Such act width
-function_found (Found act width) Such such = (act, width, refl, such)
-function_found NotInTable Such such = absurd such
+pub function_found : (lookup : Option (Act × Width)) (Such : Act → Width → Type 0) → OfFound lookup Such
+    → (act : Act) × (width : Width) × (lookup ≡ Some (act, width)) × Such act width
+function_found (Some (act, width)) Such such = (act, width, refl, such)
+function_found None Such such = absurd such
 
 -- an accepted request was carried out, with this image and this reply buffer after it
 abbrev pub IsDone : Call → ℕ → List ℕ → List ℕ → Act → Width → Type 0

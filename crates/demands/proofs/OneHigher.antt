@@ -10,7 +10,7 @@ use Rattle.check_word.specs.Frame.{framed, Right}
 use Rattle.frames.specs.declared.Act.{Act}
 use Rattle.frames.specs.declared.Act.TheVariants.{Read, WriteOne, WriteRun}
 use Rattle.frames.specs.declared.Width.{Width}
-use Rattle.frames.specs.declared.Lookup.TheVariants.{Found}
+use Rattle.std.specs.Prelude.{Option, Some, None}
 use Rattle.frames.specs.Fields.{byte, up_to_quantity}
 use Rattle.frames.specs.Functions.{function_of}
 use Rattle.frames.specs.Limits.{bytes_for, request_length, reply_length}
@@ -67,7 +67,7 @@ module _ (call : Call) (a f start : ℕ) (rest : List ℕ) (x y : Answer)
     equal = λ no. refl;
   }
 
-  moved_read : (n : ℕ) → y.outcome ≡ Reply n → (width : Width) → function_of f ≡ Found Read width
+  moved_read : (n : ℕ) → y.outcome ≡ Reply n → (width : Width) → function_of f ≡ Some (Read, width)
       → IsDone lower n y.image y.reply Read width → Moved
   moved_read n is width does d =
       let long = accepted_long lower y here n is Read width does in
@@ -100,7 +100,7 @@ module _ (call : Call) (a f start : ℕ) (rest : List ℕ) (x y : Answer)
         ← data_over a f rest start (start + 1) long,
       ) stored
 
-  moved_write : (n : ℕ) → y.outcome ≡ Reply n → (act : Act) (width : Width) → function_of f ≡ Found act width → act ≢ Read
+  moved_write : (n : ℕ) → y.outcome ≡ Reply n → (act : Act) (width : Width) → function_of f ≡ Some (act, width) → act ≢ Read
       → IsDone lower n y.image y.reply act width → Moved
   moved_write n is act width does write d =
       let long = accepted_long lower y here n is act width does in
@@ -131,7 +131,7 @@ module _ (call : Call) (a f start : ℕ) (rest : List ℕ) (x y : Answer)
         equal = λ no. absurd (no (n, is, rw does write));
       }
 
-  moved_by_act : (n : ℕ) → y.outcome ≡ Reply n → (act : Act) (width : Width) → function_of f ≡ Found act width
+  moved_by_act : (n : ℕ) → y.outcome ≡ Reply n → (act : Act) (width : Width) → function_of f ≡ Some (act, width)
       → IsDone lower n y.image y.reply act width → Moved
   moved_by_act n is Read width does d = moved_read n is width does d
   moved_by_act n is WriteOne width does d = moved_write n is WriteOne width does (λ e. apart act_place e refl (λ p. omega arith)) d

@@ -17,7 +17,7 @@ use Rattle.areas.specs.declared.Verdict.TheVariants.{SomeInNoArea, SomeReadOnly}
 use Rattle.areas.proofs.Witnesses as areas-of
 use Rattle.frames.specs.declared.Act.TheVariants.{Read, WriteOne, WriteRun}
 use Rattle.frames.specs.declared.Width.TheVariants.{Bit, Word}
-use Rattle.frames.specs.declared.Lookup.TheVariants.{Found}
+use Rattle.std.specs.Prelude.{Option, Some, None}
 use Rattle.frames.specs.declared.Code.TheVariants as Code
 use Rattle.frames.specs.Fields.{number}
 use Rattle.frames.specs.Functions.{function_of}
@@ -45,13 +45,13 @@ use Rattle.demands.proofs.Image.{bits_24_to_26, bits_24_to_26_agree, words_fit, 
 -- ---- the eight functions; 01 and 02 act alike, and so do 03 and 04
 
 module _ (counting : Counting) where
-  bits_read : (function : ℕ) → function_of function ≡ Found Read Bit
+  bits_read : (function : ℕ) → function_of function ≡ Some (Read, Bit)
       → Replied (bench counting Ready (request 20 function (start_for counting 24) (0x00 ∷ 0x03 ∷ [])))
       (framed (20 ∷ function ∷ 0x01 ∷ 0x03 ∷ [])) image
   bits_read function found =
       read counting Bit function 24 0x00 0x03 (0x03 ∷ []) found (omega arith) (omega arith) (omega arith) bits_24_to_26
 
-  words_read : (function : ℕ) → function_of function ≡ Found Read Word
+  words_read : (function : ℕ) → function_of function ≡ Some (Read, Word)
       → Replied (bench counting Ready (request 20 function (start_for counting 1) (0x00 ∷ 0x02 ∷ [])))
       (framed (20 ∷ function ∷ 0x04 ∷ 0x03 ∷ 0xe8 ∷ 0x01 ∷ 0xf4 ∷ [])) image
   words_read function found =

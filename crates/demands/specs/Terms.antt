@@ -10,7 +10,7 @@ use Rattle.frames.specs.declared.Act.{Act}
 use Rattle.frames.specs.declared.Act.TheVariants.{Read}
 use Rattle.frames.specs.declared.Width.{Width}
 use Rattle.frames.specs.declared.Width.TheVariants.{Bit, Word}
-use Rattle.frames.specs.declared.Lookup.TheVariants.{Found}
+use Rattle.std.specs.Prelude.{Option, Some, None}
 use Rattle.frames.specs.Fields.{byte, station_field, function_field}
 use Rattle.frames.specs.Functions.{function_of}
 use Rattle.frames.specs.Limits.{quantity, on}
@@ -64,7 +64,7 @@ lines_before_e2 = 13
 
 -- its function is in the function table, and does this to bits or to words
 abbrev pub Does : Call → Act → Width → Type 0
-Does call act width = function_of (function_field call.frame) ≡ Found act width
+Does call act width = function_of (function_field call.frame) ≡ Some (act, width)
 
 -- the first address, counted from 0 (the station's counting says how the frame has it)
 abbrev pub first_of : Call → ℕ

@@ -9,7 +9,7 @@ use Rattle.frames.specs.Exceptions.{exception_length}
 use Rattle.slave.specs.declared.Outcome.{Outcome}
 use Rattle.slave.specs.Conditions.{most_image_words}
 use Rattle.slave.specs.Answer.{to_send}
-use Rattle.master.specs.declared.Built.{Built}
+use Rattle.master.specs.declared.Refusal.{Refusal}
 use Rattle.master.specs.declared.Reading.{Reading}
 use Rattle.master.specs.Refusals.{Line, RefusedBy}
 use Rattle.demands.specs.Terms.{KeptBeyond}
@@ -40,8 +40,8 @@ KindAndNumber = (kind number : ℕ) → number ≤ most_number → (kind_in (res
 -- .. and different answers are told as different numbers, if they speak of at most 65,535 bytes (none speaks of more)
 pub record Apart : Type 0 where
   pub outcomes : (a b : Outcome) → to_send a ≤ most_number → to_send b ≤ most_number → outcome_result a ≡ outcome_result b → a ≡ b
-  pub built : (a b : Built) → bytes_built a ≤ most_number → bytes_built b ≤ most_number → built_result a ≡ built_result b → a ≡ b
-  pub readings : (a b : Reading) → bytes_read a ≤ most_number → bytes_read b ≤ most_number → reading_result a ≡ reading_result b → a ≡ b
+  pub built : (a b : Result ℕ Refusal) → bytes_built a ≤ most_number → bytes_built b ≤ most_number → built_result a ≡ built_result b → a ≡ b
+  pub readings : (a b : Result Reading Refusal) → bytes_read a ≤ most_number → bytes_read b ≤ most_number → reading_result a ≡ reading_result b → a ≡ b
 
 -- ---- area words
 

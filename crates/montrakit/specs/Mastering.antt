@@ -1,9 +1,9 @@
 -- What `montrakit_build` and `montrakit_read` promise.
 -- Assumes nothing.
-use Rattle.std.specs.Prelude.{◌≡◌, ◌⊎◌, List, ℕ}
+use Rattle.std.specs.Prelude.{◌≡◌, ◌⊎◌, List, Result, ℕ}
 use Rattle.master.specs.declared.Function.{Function}
 use Rattle.master.specs.declared.Request.{Request}
-use Rattle.master.specs.declared.Built.{Built}
+use Rattle.master.specs.declared.Refusal.{Refusal}
 use Rattle.master.specs.declared.Reading.{Reading}
 use Rattle.master.specs.Requests.{function_number}
 use Rattle.master.specs.Building as building
@@ -27,11 +27,11 @@ OfNumber number before Such told after =
 abbrev pub Build : ℕ → ℕ → ℕ → ℕ → List ℕ → List ℕ → ℕ → List ℕ → Type 0
 Build station number start value carried before = OfNumber number before
     (λ function told after.
-    (built : Built) × building.Build (request_of station function start value) carried before built after
+    (built : Result ℕ Refusal) × building.Build (request_of station function start value) carried before built after
     × (told ≡ built_result built))
 
 abbrev pub Read : ℕ → ℕ → ℕ → ℕ → List ℕ → List ℕ → ℕ → List ℕ → Type 0
 Read station number start value reply before = OfNumber number before
     (λ function told after.
-    (read : Reading) × reading.ReadReply (request_of station function start value) reply before read after
+    (read : Result Reading Refusal) × reading.ReadReply (request_of station function start value) reply before read after
     × (told ≡ reading_result read))

@@ -1,11 +1,11 @@
 -- What is answered, as one number: kind × 65,536 + number.
 -- Assumes nothing.
-use Rattle.std.specs.Prelude.{ℕ, ◌+◌, ◌*◌, ◌/◌, ◌%◌}
+use Rattle.std.specs.Prelude.{Result, Ok, Err, ℕ, ◌+◌, ◌*◌, ◌/◌, ◌%◌}
 use Rattle.frames.specs.Exceptions.{code_number}
 use Rattle.slave.specs.declared.Outcome.{Outcome}
 use Rattle.slave.specs.Numbers as slave
-use Rattle.master.specs.declared.Built.{Built}
 use Rattle.master.specs.declared.Reading.{Reading}
+use Rattle.master.specs.declared.Refusal.{Refusal}
 use Rattle.master.specs.declared.Refusal.TheVariants as Refusal
 use Rattle.master.specs.Refusals as master
 
@@ -60,27 +60,27 @@ outcome_result (Outcome.Reply n) = result reply n
 
 -- ---- the master's: the paper's number, or how many bytes were built or read
 
-abbrev pub built_result : Built → ℕ
-built_result (Built.Refused why) = result refused (master.refusal_number why)
-built_result (Built.Frame n) = result built n
+abbrev pub built_result : Result ℕ Refusal → ℕ
+built_result (Err why) = result refused (master.refusal_number why)
+built_result (Ok n) = result built n
 
-abbrev pub reading_result : Reading → ℕ
-reading_result (Reading.Refused why) = result refused (master.refusal_number why)
-reading_result (Reading.Data n) = result values n
-reading_result Reading.Written = result written 0
-reading_result (Reading.Exception code) = result exception (code_number code)
+abbrev pub reading_result : Result Reading Refusal → ℕ
+reading_result (Err why) = result refused (master.refusal_number why)
+reading_result (Ok (Reading.Data n)) = result values n
+reading_result (Ok Reading.Written) = result written 0
+reading_result (Ok (Reading.Exception code)) = result exception (code_number code)
 
 -- an unknown function number is refusal 70
 abbrev pub unknown_function : ℕ
 unknown_function = result refused (master.refusal_number Refusal.Request)
 
 -- how many bytes these two speak of (those of an outcome: `to_send` of slave, `Answer`)
-abbrev pub bytes_built : Built → ℕ
-bytes_built (Built.Refused why) = 0
-bytes_built (Built.Frame n) = n
+abbrev pub bytes_built : Result ℕ Refusal → ℕ
+bytes_built (Err why) = 0
+bytes_built (Ok n) = n
 
-abbrev pub bytes_read : Reading → ℕ
-bytes_read (Reading.Refused why) = 0
-bytes_read (Reading.Data n) = n
-bytes_read Reading.Written = 0
-bytes_read (Reading.Exception code) = 0
+abbrev pub bytes_read : Result Reading Refusal → ℕ
+bytes_read (Err why) = 0
+bytes_read (Ok (Reading.Data n)) = n
+bytes_read (Ok Reading.Written) = 0
+bytes_read (Ok (Reading.Exception code)) = 0

@@ -12,8 +12,8 @@ ghost use Rattle.montrakit.specs.Responding.{Respond};
 ghost use Rattle.montrakit.specs.Mastering.{request_of, Build, Read};
 
 use master::{Function, Request};
-use naming::{CountingNamed, FunctionNamed, StateNamed};
 use slave::Station;
+use telling::BadArgument;
 
 // The check word of any bytes.
 pub fn montrakit_check_word(bytes: &[u8]) -> u16
@@ -34,13 +34,11 @@ pub fn montrakit_respond(
 ) -> u32
     ensures { Respond own counting state areas.now frame.now image.old reply.old result image.new reply.new }
 {
-    let counted = naming::counting(counting);
-    let doing = naming::state(state);
-    let CountingNamed::Names(counting) = counted else {
-        return telling::bad_argument(telling::COUNTING);
+    let Some(counting) = naming::counting(counting) else {
+        return telling::bad_argument(BadArgument::Counting);
     };
-    let StateNamed::Names(state) = doing else {
-        return telling::bad_argument(telling::STATE);
+    let Some(state) = naming::state(state) else {
+        return telling::bad_argument(BadArgument::State);
     };
     let station = Station {
         own,
@@ -62,8 +60,7 @@ pub fn montrakit_build(
 ) -> u32
     ensures { Build station function start value «data».now frame.old result frame.new }
 {
-    let named = naming::function(function);
-    let FunctionNamed::Names(function) = named else {
+    let Ok(function) = Function::try_from(function) else {
         return telling::unknown_function();
     };
     let request = request_of(station, function, start, value);
@@ -82,8 +79,7 @@ pub fn montrakit_read(
 ) -> u32
     ensures { Read station function start value reply.now out.old result out.new }
 {
-    let named = naming::function(function);
-    let FunctionNamed::Names(function) = named else {
+    let Ok(function) = Function::try_from(function) else {
         return telling::unknown_function();
     };
     let request = request_of(station, function, start, value);

@@ -1,48 +1,42 @@
 // What is answered, as one number: kind × 65,536 + number.
 ghost use Rattle.std.specs.Prelude.{◌≡◌, ◌≤◌};
 ghost use Rattle.slave.specs.Answer.{to_send};
-ghost use Rattle.montrakit.specs.Results.{result as one_number, most_number, bad_argument, outcome_result, built_result, reading_result, unknown_function, bytes_built, bytes_read};
+ghost use Rattle.montrakit.specs.Results.{result as one_number, most_number, bad_argument, outcome_result, built_result, reading_result, unknown_function, bytes_built, bytes_read, refused};
+ghost use Rattle.master.specs.Refusals.{refusal_number};
+ghost use Rattle.montrakit.specs.Naming.{kind_number, argument_number};
 
-use master::{Built, Reading};
+use master::{Reading, Refusal};
 use slave::Outcome;
 
-// The kinds.
-const REFUSED: u32 = 0;
+#[derive(Clone, Copy)]
+enum Kind {
+    Refused = 0,
+    Silent = 1,
+    Exception = 2,
+    Reply = 3,
+    BadArgument = 4,
+    Built = 5,
+    Values = 6,
+    Written = 7,
+}
 
-const SILENT: u32 = 1;
+#[derive(Clone, Copy)]
+pub(crate) enum BadArgument {
+    Counting = 1,
+    State = 2,
+}
 
-const EXCEPTION: u32 = 2;
-
-const REPLY: u32 = 3;
-
-const BAD_ARGUMENT: u32 = 4;
-
-const BUILT: u32 = 5;
-
-const VALUES: u32 = 6;
-
-const WRITTEN: u32 = 7;
-
-// The numbers of a bad argument.
-pub(crate) const COUNTING: u32 = 1;
-
-pub(crate) const STATE: u32 = 2;
-
-pub(crate) fn bad_argument(number: u32) -> u32
-    requires { number ≤ most_number }
-    ensures { result ≡ one_number bad_argument number }
+pub(crate) fn bad_argument(argument: BadArgument) -> u32
+    ensures { result ≡ one_number bad_argument (argument_number argument) }
 {
-    result_of(BAD_ARGUMENT, number)
+    result_of(Kind::BadArgument, argument as u32)
 }
 
 // Of a function number that names none.
 pub(crate) fn unknown_function() -> u32
     ensures { result ≡ unknown_function }
 {
-    result_of(
-        REFUSED,
-        master::refusal_number(master::Refusal::Request) as u32,
-    )
+    refused(Refusal::Request)
 }
 
 pub(crate) fn outcome(outcome: Outcome) -> u32
@@ -50,38 +44,45 @@ pub(crate) fn outcome(outcome: Outcome) -> u32
     ensures { result ≡ outcome_result outcome }
 {
     match outcome {
-        Outcome::Refused(why) => result_of(REFUSED, slave::refusal_number(why) as u32),
-        Outcome::Silent(why) => result_of(SILENT, slave::silence_number(why) as u32),
-        Outcome::Exception(code) => result_of(EXCEPTION, frames::code_number(code) as u32),
-        Outcome::Reply(length) => result_of(REPLY, length as u32),
+        Outcome::Refused(why) => result_of(Kind::Refused, u8::from(why) as u32),
+        Outcome::Silent(why) => result_of(Kind::Silent, u8::from(why) as u32),
+        Outcome::Exception(code) => result_of(Kind::Exception, u8::from(code) as u32),
+        Outcome::Reply(length) => result_of(Kind::Reply, length as u32),
     }
 }
 
-pub(crate) fn built(built: Built) -> u32
+pub(crate) fn built(built: Result<usize, Refusal>) -> u32
     requires { bytes_built built ≤ most_number }
     ensures { result ≡ built_result built }
 {
     match built {
-        Built::Refused(why) => result_of(REFUSED, master::refusal_number(why) as u32),
-        Built::Frame(length) => result_of(BUILT, length as u32),
+        Err(why) => refused(why),
+        Ok(length) => result_of(Kind::Built, length as u32),
     }
 }
 
-pub(crate) fn reading(reading: Reading) -> u32
+pub(crate) fn reading(reading: Result<Reading, Refusal>) -> u32
     requires { bytes_read reading ≤ most_number }
     ensures { result ≡ reading_result reading }
 {
     match reading {
-        Reading::Refused(why) => result_of(REFUSED, master::refusal_number(why) as u32),
-        Reading::Data(length) => result_of(VALUES, length as u32),
-        Reading::Written => result_of(WRITTEN, 0),
-        Reading::Exception(code) => result_of(EXCEPTION, frames::code_number(code) as u32),
+        Err(why) => refused(why),
+        Ok(Reading::Data(length)) => result_of(Kind::Values, length as u32),
+        Ok(Reading::Written) => result_of(Kind::Written, 0),
+        Ok(Reading::Exception(code)) => result_of(Kind::Exception, u8::from(code) as u32),
     }
 }
 
-fn result_of(kind: u32, number: u32) -> u32
-    requires { (kind ≤ 7) × (number ≤ most_number) }
-    ensures { result ≡ one_number kind number }
+// A refusal of the master's.
+fn refused(why: Refusal) -> u32
+    ensures { result ≡ one_number refused (refusal_number why) }
 {
-    kind * 65536 + number
+    result_of(Kind::Refused, u8::from(why) as u32)
+}
+
+fn result_of(kind: Kind, number: u32) -> u32
+    requires { number ≤ most_number }
+    ensures { result ≡ one_number (kind_number kind) number }
+{
+    kind as u32 * 65536 + number
 }
