@@ -19,7 +19,8 @@ use Rattle.slave.specs.Answer as slave
 use Rattle.slave.proofs.Laws as slave-laws
 use Rattle.slave.proofs.Broken.{broken_alike}
 use Rattle.master.specs.declared.Function.{Function}
-use Rattle.master.specs.declared.Built.{Built}
+use Rattle.std.specs.Prelude.{Result}
+use Rattle.master.specs.declared.Refusal.{Refusal}
 use Rattle.master.specs.declared.Reading.{Reading}
 use Rattle.master.proofs.Lines.{refused_determined, refused_or_not}
 use Rattle.master.proofs.Laws as master-laws
@@ -127,11 +128,11 @@ of_number_determined number before Such one (t, a) (u, b) (inr p) (inr q) =
 pub build_determined : laws.BuildDetermined
 build_determined station number start value carried before = of_number_determined number before _ (λ function a b p q.
     let same = master-laws.BuildDetermined (request_of station function start value) carried before (p.0, a.1) (q.0, b.1) p.1 q.1 in
-    let told = p.2 ∙ ap (λ (x : Built × List ℕ). built_result x.0) same ∙ sym q.2 in
+    let told = p.2 ∙ ap (λ (x : Result ℕ Refusal × List ℕ). built_result x.0) same ∙ sym q.2 in
     λ i. (told i, (same i).1))
 
 pub read_determined : laws.ReadDetermined
 read_determined station number start value reply before = of_number_determined number before _ (λ function a b p q.
     let same = master-laws.ReadReplyDetermined (request_of station function start value) reply before (p.0, a.1) (q.0, b.1) p.1 q.1 in
-    let told = p.2 ∙ ap (λ (x : Reading × List ℕ). reading_result x.0) same ∙ sym q.2 in
+    let told = p.2 ∙ ap (λ (x : Result Reading Refusal × List ℕ). reading_result x.0) same ∙ sym q.2 in
     λ i. (told i, (same i).1))

@@ -12,7 +12,8 @@ use Rattle.slave.specs.Answer.{to_send}
 use Rattle.slave.specs.Answer as slave
 use Rattle.slave.proofs.Laws as slave-laws
 use Rattle.master.specs.declared.Request.{Request}
-use Rattle.master.specs.declared.Built.{Built}
+use Rattle.std.specs.Prelude.{Result, Ok, Err}
+use Rattle.master.specs.declared.Refusal.{Refusal}
 use Rattle.master.specs.declared.Reading.{Reading}
 use Rattle.master.specs.Building as building
 use Rattle.master.specs.Reading as reading
@@ -28,16 +29,16 @@ outcome_fits station areas frame image reply (Outcome.Exception code) image_afte
 outcome_fits station areas frame image reply (Outcome.Reply n) image_after reply_after answers =
     omega (arith, (slave-laws.ReplyLength _ _ answers n refl).2)
 
-pub built_fits : (request : Request) (carried before : List ℕ) (built : Built) (after : List ℕ)
+pub built_fits : (request : Request) (carried before : List ℕ) (built : Result ℕ Refusal) (after : List ℕ)
     → building.Build request carried before built after → bytes_built built ≤ most_number
-built_fits request carried before (Built.Refused why) after builds = omega arith
-built_fits request carried before (Built.Frame n) after builds =
+built_fits request carried before (Err why) after builds = omega arith
+built_fits request carried before (Ok n) after builds =
     omega (arith, (master-laws.BuiltFrames request carried before n after builds).most)
 
 -- (what is read has the byte count of the reply)
-pub reading_fits : (request : Request) (reply before : List ℕ) (read : Reading) (after : List ℕ) → byte reply 2 < 256
+pub reading_fits : (request : Request) (reply before : List ℕ) (read : Result Reading Refusal) (after : List ℕ) → byte reply 2 < 256
     → reading.ReadReply request reply before read after → bytes_read read ≤ most_number
-reading_fits request reply before (Reading.Refused why) after small reads = omega arith
-reading_fits request reply before (Reading.Data n) after small reads = omega (arith, small, reads.told.1.byte_count)
-reading_fits request reply before Reading.Written after small reads = omega arith
-reading_fits request reply before (Reading.Exception code) after small reads = omega arith
+reading_fits request reply before (Err why) after small reads = omega arith
+reading_fits request reply before (Ok (Reading.Data n)) after small reads = omega (arith, small, reads.told.1.byte_count)
+reading_fits request reply before (Ok Reading.Written) after small reads = omega arith
+reading_fits request reply before (Ok (Reading.Exception code)) after small reads = omega arith

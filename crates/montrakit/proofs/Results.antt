@@ -14,7 +14,8 @@ use Rattle.slave.specs.Numbers as slave
 use Rattle.slave.specs.Answer.{to_send}
 use Rattle.slave.proofs.Laws as slave-laws
 use Rattle.master.specs.declared.Refusal as Unread
-use Rattle.master.specs.declared.Built.{Built}
+use Rattle.std.specs.Prelude.{Result, Ok, Err}
+use Rattle.master.specs.declared.Refusal.{Refusal}
 use Rattle.master.specs.declared.Reading.{Reading}
 use Rattle.master.specs.Refusals as master
 use Rattle.master.proofs.Laws as master-laws
@@ -79,26 +80,26 @@ outcomes_apart (Outcome.Reply a) (Outcome.Silent b) small-a small_b e = absurd (
 outcomes_apart (Outcome.Reply a) (Outcome.Exception b) small-a small_b e = absurd (apart 3 2 _ _ small-a (code_small b) (λ h. omega (arith, h)) e)
 outcomes_apart (Outcome.Reply a) (Outcome.Reply b) small-a small_b e = ap Outcome.Reply (same_number 3 _ _ e)
 
-pub built_apart : (a b : Built) → bytes_built a ≤ most_number → bytes_built b ≤ most_number → built_result a ≡ built_result b → a ≡ b
-built_apart (Built.Refused a) (Built.Refused b) small-a small_b e = ap Built.Refused (master-laws.RefusalsApart a b (same_number 0 _ _ e))
-built_apart (Built.Refused a) (Built.Frame b) small-a small_b e = absurd (apart 0 5 _ _ (unread_small a) small_b (λ h. omega (arith, h)) e)
-built_apart (Built.Frame a) (Built.Refused b) small-a small_b e = absurd (apart 5 0 _ _ small-a (unread_small b) (λ h. omega (arith, h)) e)
-built_apart (Built.Frame a) (Built.Frame b) small-a small_b e = ap Built.Frame (same_number 5 _ _ e)
+pub built_apart : (a b : Result ℕ Refusal) → bytes_built a ≤ most_number → bytes_built b ≤ most_number → built_result a ≡ built_result b → a ≡ b
+built_apart (Err a) (Err b) small-a small_b e = ap Err (master-laws.RefusalsApart a b (same_number 0 _ _ e))
+built_apart (Err a) (Ok b) small-a small_b e = absurd (apart 0 5 _ _ (unread_small a) small_b (λ h. omega (arith, h)) e)
+built_apart (Ok a) (Err b) small-a small_b e = absurd (apart 5 0 _ _ small-a (unread_small b) (λ h. omega (arith, h)) e)
+built_apart (Ok a) (Ok b) small-a small_b e = ap Ok (same_number 5 _ _ e)
 
-pub readings_apart : (a b : Reading) → bytes_read a ≤ most_number → bytes_read b ≤ most_number → reading_result a ≡ reading_result b → a ≡ b
-readings_apart (Reading.Refused a) (Reading.Refused b) small-a small_b e = ap Reading.Refused (master-laws.RefusalsApart a b (same_number 0 _ _ e))
-readings_apart (Reading.Refused a) (Reading.Data b) small-a small_b e = absurd (apart 0 6 _ _ (unread_small a) small_b (λ h. omega (arith, h)) e)
-readings_apart (Reading.Refused a) Reading.Written small-a small_b e = absurd (apart 0 7 _ 0 (unread_small a) (omega arith) (λ h. omega (arith, h)) e)
-readings_apart (Reading.Refused a) (Reading.Exception b) small-a small_b e = absurd (apart 0 2 _ _ (unread_small a) (code_small b) (λ h. omega (arith, h)) e)
-readings_apart (Reading.Data a) (Reading.Refused b) small-a small_b e = absurd (apart 6 0 _ _ small-a (unread_small b) (λ h. omega (arith, h)) e)
-readings_apart (Reading.Data a) (Reading.Data b) small-a small_b e = ap Reading.Data (same_number 6 _ _ e)
-readings_apart (Reading.Data a) Reading.Written small-a small_b e = absurd (apart 6 7 _ 0 small-a (omega arith) (λ h. omega (arith, h)) e)
-readings_apart (Reading.Data a) (Reading.Exception b) small-a small_b e = absurd (apart 6 2 _ _ small-a (code_small b) (λ h. omega (arith, h)) e)
-readings_apart Reading.Written (Reading.Refused b) small-a small_b e = absurd (apart 7 0 0 _ (omega arith) (unread_small b) (λ h. omega (arith, h)) e)
-readings_apart Reading.Written (Reading.Data b) small-a small_b e = absurd (apart 7 6 0 _ (omega arith) small_b (λ h. omega (arith, h)) e)
-readings_apart Reading.Written Reading.Written small-a small_b e = refl
-readings_apart Reading.Written (Reading.Exception b) small-a small_b e = absurd (apart 7 2 0 _ (omega arith) (code_small b) (λ h. omega (arith, h)) e)
-readings_apart (Reading.Exception a) (Reading.Refused b) small-a small_b e = absurd (apart 2 0 _ _ (code_small a) (unread_small b) (λ h. omega (arith, h)) e)
-readings_apart (Reading.Exception a) (Reading.Data b) small-a small_b e = absurd (apart 2 6 _ _ (code_small a) small_b (λ h. omega (arith, h)) e)
-readings_apart (Reading.Exception a) Reading.Written small-a small_b e = absurd (apart 2 7 _ 0 (code_small a) (omega arith) (λ h. omega (arith, h)) e)
-readings_apart (Reading.Exception a) (Reading.Exception b) small-a small_b e = ap Reading.Exception (frames-laws.CodesApart a b (same_number 2 _ _ e))
+pub readings_apart : (a b : Result Reading Refusal) → bytes_read a ≤ most_number → bytes_read b ≤ most_number → reading_result a ≡ reading_result b → a ≡ b
+readings_apart (Err a) (Err b) small-a small_b e = ap Err (master-laws.RefusalsApart a b (same_number 0 _ _ e))
+readings_apart (Err a) (Ok (Reading.Data b)) small-a small_b e = absurd (apart 0 6 _ _ (unread_small a) small_b (λ h. omega (arith, h)) e)
+readings_apart (Err a) (Ok Reading.Written) small-a small_b e = absurd (apart 0 7 _ 0 (unread_small a) (omega arith) (λ h. omega (arith, h)) e)
+readings_apart (Err a) (Ok (Reading.Exception b)) small-a small_b e = absurd (apart 0 2 _ _ (unread_small a) (code_small b) (λ h. omega (arith, h)) e)
+readings_apart (Ok (Reading.Data a)) (Err b) small-a small_b e = absurd (apart 6 0 _ _ small-a (unread_small b) (λ h. omega (arith, h)) e)
+readings_apart (Ok (Reading.Data a)) (Ok (Reading.Data b)) small-a small_b e = ap (λ n. Ok (Reading.Data n)) (same_number 6 _ _ e)
+readings_apart (Ok (Reading.Data a)) (Ok Reading.Written) small-a small_b e = absurd (apart 6 7 _ 0 small-a (omega arith) (λ h. omega (arith, h)) e)
+readings_apart (Ok (Reading.Data a)) (Ok (Reading.Exception b)) small-a small_b e = absurd (apart 6 2 _ _ small-a (code_small b) (λ h. omega (arith, h)) e)
+readings_apart (Ok Reading.Written) (Err b) small-a small_b e = absurd (apart 7 0 0 _ (omega arith) (unread_small b) (λ h. omega (arith, h)) e)
+readings_apart (Ok Reading.Written) (Ok (Reading.Data b)) small-a small_b e = absurd (apart 7 6 0 _ (omega arith) small_b (λ h. omega (arith, h)) e)
+readings_apart (Ok Reading.Written) (Ok Reading.Written) small-a small_b e = refl
+readings_apart (Ok Reading.Written) (Ok (Reading.Exception b)) small-a small_b e = absurd (apart 7 2 0 _ (omega arith) (code_small b) (λ h. omega (arith, h)) e)
+readings_apart (Ok (Reading.Exception a)) (Err b) small-a small_b e = absurd (apart 2 0 _ _ (code_small a) (unread_small b) (λ h. omega (arith, h)) e)
+readings_apart (Ok (Reading.Exception a)) (Ok (Reading.Data b)) small-a small_b e = absurd (apart 2 6 _ _ (code_small a) small_b (λ h. omega (arith, h)) e)
+readings_apart (Ok (Reading.Exception a)) (Ok Reading.Written) small-a small_b e = absurd (apart 2 7 _ 0 (code_small a) (omega arith) (λ h. omega (arith, h)) e)
+readings_apart (Ok (Reading.Exception a)) (Ok (Reading.Exception b)) small-a small_b e = ap (λ code. Ok (Reading.Exception code)) (frames-laws.CodesApart a b (same_number 2 _ _ e))

@@ -20,7 +20,7 @@ use Rattle.slave.specs.Answer as slave
 use Rattle.slave.specs.Examples.{areas}
 use Rattle.master.specs.declared.Function.TheVariants.{ReadBits01, ReadBits02, ReadWords03, ReadWords04, WriteBit05, WriteWord06, WriteBits0F, WriteWords10}
 use Rattle.master.specs.declared.Refusal.TheVariants as Unread
-use Rattle.master.specs.declared.Built.TheVariants as Built
+use Rattle.std.specs.Prelude.{Ok, Err}
 use Rattle.master.specs.declared.Reading.TheVariants as Reading
 use Rattle.master.specs.Requests.{function_number}
 use Rattle.master.specs.Refusals.{RefusedBy}
@@ -113,9 +113,9 @@ Witnesses = record {
   three_bits_by_j_bus = told 20 JBus Ready _ (Reply 6) _ (demands.Witnesses).function_01_j_bus;
   function_7 = inl (no_function_7, refl, refl);
   function_7_read = inl (no_function_7, refl, refl);
-  built = inr (ReadWords03, refl, (Built.Frame 8, (master.Examples).built_03, refl));
-  values = inr (ReadWords03, refl, (Reading.Data 4, (master.Examples).read_03, refl));
-  written = inr (WriteBit05, refl, (Reading.Written, (master.Examples).read_05, refl));
-  exception_read = inr (WriteWord06, refl, (Reading.Exception Code.ReadOnly, (master.Examples).exception, refl));
-  refused_71 = inr (ReadWords03, refl, (Reading.Refused Unread.CheckWord, (master.Examples).refused_71.1, refl));
+  built = inr (ReadWords03, refl, (Ok 8, (master.Examples).built_03, refl));
+  values = inr (ReadWords03, refl, (Ok (Reading.Data 4), (master.Examples).read_03, refl));
+  written = inr (WriteBit05, refl, (Ok Reading.Written, (master.Examples).read_05, refl));
+  exception_read = inr (WriteWord06, refl, (Ok (Reading.Exception Code.ReadOnly), (master.Examples).exception, refl));
+  refused_71 = inr (ReadWords03, refl, (Err Unread.CheckWord, (master.Examples).refused_71.1, refl));
 }

@@ -1,6 +1,6 @@
 -- The laws of the face, each proved under its name in proofs/Laws.antt.
 -- Assumes nothing.
-use Rattle.std.specs.Prelude.{◌≡◌, ◌⊎◌, ◌≢◌, ◌↔◌, List, [], ◌∷◌, ℕ, ◌+◌, ◌*◌, ◌%◌, ◌≤◌, ◌<◌, length, get_or}
+use Rattle.std.specs.Prelude.{◌≡◌, ◌⊎◌, ◌≢◌, ◌↔◌, List, [], ◌∷◌, Result, ℕ, ◌+◌, ◌*◌, ◌%◌, ◌≤◌, ◌<◌, length, get_or}
 use Rattle.promise.specs.Promise.{Determined}
 use Rattle.check_word.specs.Line.{Damaged}
 use Rattle.areas.specs.declared.Area.{Area}

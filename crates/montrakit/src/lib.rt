@@ -9,7 +9,8 @@ mod telling;
 ghost use Rattle.std.specs.Prelude.{◌≡◌};
 ghost use Rattle.check_word.specs.CheckWord.{check_word};
 ghost use Rattle.montrakit.specs.Responding.{Respond};
-ghost use Rattle.montrakit.specs.Mastering.{request_of, Build, Read};
+ghost use Rattle.montrakit.specs.Mastering.{Build, Read};
+ghost use Rattle.montrakit.specs.Naming.{RequestIs};
 
 use master::{Function, Request};
 use slave::Station;
@@ -60,10 +61,9 @@ pub fn montrakit_build(
 ) -> u32
     ensures { Build station function start value «data».now frame.old result frame.new }
 {
-    let Ok(function) = Function::try_from(function) else {
+    let Some(request) = request_of(station, function, start, value) else {
         return telling::unknown_function();
     };
-    let request = request_of(station, function, start, value);
     let built = master::build(request, data, frame);
     telling::built(built)
 }
@@ -79,22 +79,22 @@ pub fn montrakit_read(
 ) -> u32
     ensures { Read station function start value reply.now out.old result out.new }
 {
-    let Ok(function) = Function::try_from(function) else {
+    let Some(request) = request_of(station, function, start, value) else {
         return telling::unknown_function();
     };
-    let request = request_of(station, function, start, value);
     let reading = master::read_reply(request, reply, out);
     telling::reading(reading)
 }
 
-// The fields of a request, as the master takes them.
-fn request_of(station: u8, function: Function, start: u16, value: u16) -> Request
-    ensures { result ≡ request_of station function start value }
+// The request with these fields, if the number is a function's.
+fn request_of(station: u8, number: u8, start: u16, value: u16) -> Option<Request>
+    ensures { RequestIs station number start value result }
 {
-    Request {
+    let function = Function::try_from(number).ok()?;
+    Some(Request {
         station,
         function,
         start,
         operand: value,
-    }
+    })
 }
