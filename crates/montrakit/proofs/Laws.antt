@@ -135,10 +135,8 @@ DamagedReplyTold station number start value reply before told after (inr (functi
     (told_as ∙ ap reading_result refusal, kept)
   where
     -- what is refused with 70 is told so
-    fields_kept : (request : Request) (room : ℕ) (reply : List ℕ) (read : Reading) → ToldBy request room reply read
+    fields_kept : (request : Request) (room : ℕ) (reply : List ℕ) (read : Result Reading Refusal) → ToldBy request room reply read
         → reading_result read ≢ result refused 70 → FieldsRefused request room → ⊥
-    fields_kept request room reply (Refused why) (inl (fields, e)) other refusing = other (ap (result refused) e)
-    fields_kept request room reply (Refused why) (inr (kept, later)) other refusing = kept refusing
-    fields_kept request room reply (Data n) told other refusing = told.0.0 refusing
-    fields_kept request room reply Written told other refusing = told.0.0 refusing
-    fields_kept request room reply (Exception code) told other refusing = told.0.0 refusing
+    fields_kept request room reply (Err why) (inl (fields, e)) other refusing = other (ap (result refused) e)
+    fields_kept request room reply (Err why) (inr (kept, later)) other refusing = kept refusing
+    fields_kept request room reply (Ok reading) told other refusing = told.0.0 refusing
