@@ -13,19 +13,19 @@ use types.Logic.{Logic}
 use contract.Monad.{Fun, fact}
 use denote.Triple.Entry.{Args}
 use Rattle.promise.specs.Promise.{Determined}
-use Rattle.areas.specs.declared.Finding.{Finding}
-use Rattle.areas.specs.declared.Finding.TheVariants.{BreaksARule}
+use Rattle.std.specs.Prelude.{Option, None}
+use Rattle.areas.specs.declared.Verdict.{Verdict}
 use Rattle.areas.specs.Rules.{most_areas}
 use Rattle.areas.specs.Calls.{Survey}
 use Rattle.areas.proofs.Laws as laws
 use Rattle.areas.specs.contracts.survey as survey
 use Rattle.areas.proofs.survey_words.Reads as survey-words
 
-abbrev pub Promised : (κs : _) → Args survey.signature κs → Finding → Type 0
+abbrev pub Promised : (κs : _) → Args survey.signature κs → Option Verdict → Type 0
 Promised κs a = Survey a.0.now a.1.0 a.1.1.0
 
 survey_ensures : {M : Type 1} {𝓤 : Ura M} (𝓛 : Logic 𝓤) (mem : Memory → SProp 𝓤) (run : Routine → Fun 𝓤)
-    (κs : _) (a : _) (r : Finding) (s : _) → (survey.clauses 𝓛 mem run κs a).ensures tt r s ≡ fact 𝓤 (Promised κs a r)
+    (κs : _) (a : _) (r : Option Verdict) (s : _) → (survey.clauses 𝓛 mem run κs a).ensures tt r s ≡ fact 𝓤 (Promised κs a r)
 survey_ensures 𝓛 mem run κs a r s = refl
 
 survey_takes : {M : Type 1} {𝓤 : Ura M} (𝓛 : Logic 𝓤) (mem : Memory → SProp 𝓤) (run : Routine → Fun 𝓤)
@@ -37,8 +37,8 @@ survey_determined : (κs : _) (a : Args survey.signature κs) → Determined (Pr
 survey_determined κs a = laws.SurveyDetermined a.0.now a.1.0 a.1.1.0
 
 -- a list that is too long breaks a rule
-survey_over_sixteen : (κs : _) (a : Args survey.signature κs) (r : Finding) → most_areas < length a.0.now → Promised κs a r
-    → r ≡ BreaksARule
+survey_over_sixteen : (κs : _) (a : Args survey.signature κs) (r : Option Verdict) → most_areas < length a.0.now → Promised κs a r
+    → r ≡ None
 survey_over_sixteen κs a = laws.OverSixteen a.0.now a.1.0 a.1.1.0
 
 -- ---- the same of a list as words
@@ -46,5 +46,5 @@ survey_over_sixteen κs a = laws.OverSixteen a.0.now a.1.0 a.1.1.0
 survey_words_takes : (κs : _) (a : _) → survey-words.Pre κs a
 survey_words_takes κs a = tt
 
-survey_words_determined : (κs : _) (a : _) (x y : Finding) (s t : _) → survey-words.Post κs a x s → survey-words.Post κs a y t → x ≡ y
+survey_words_determined : (κs : _) (a : _) (x y : Option Verdict) (s t : _) → survey-words.Post κs a x s → survey-words.Post κs a y t → x ≡ y
 survey_words_determined κs a x y s t = laws.SurveyWordsDetermined a.0.now a.1.0 a.1.1.0 x y

@@ -10,7 +10,7 @@ use lib.ListN.{length, replicate, length-append, length-replicate}
 use lib.Seq.{take-append_seam}
 use Rattle.areas.specs.declared.Access.TheVariants.{ReadOnly}
 use Rattle.areas.specs.declared.Area.{Area}
-use Rattle.areas.specs.declared.Finding.TheVariants.{BreaksARule, Keeps}
+use Rattle.std.specs.Prelude.{Some, None}
 use Rattle.areas.specs.Holding.{Holds, end_of, empty_area, area_at, SomeArea}
 use Rattle.areas.specs.Calls.{list_entries}
 use Rattle.areas.specs.Laws as laws
@@ -112,21 +112,21 @@ OrderIgnored a b first count in_b in-a =
 -- ---- a survey
 
 pub OverSixteen : laws.OverSixteen
-OverSixteen areas words run BreaksARule over broken = refl
-OverSixteen areas words run (Keeps verdict) over (kept, judged) = absurd (omega (arith, kept.at_most_sixteen))
+OverSixteen areas words run None over broken = refl
+OverSixteen areas words run (Some verdict) over (kept, judged) = absurd (omega (arith, kept.at_most_sixteen))
 
 pub FindingExists : laws.FindingExists
 FindingExists areas words run =
     elim (dec_rules_kept words areas) [
-      | yes kept ↦ let (verdict, judged) = VerdictExists areas run.first run.count in (Keeps verdict, (kept, judged))
-      | no broken ↦ (BreaksARule, broken)
+      | yes kept ↦ let (verdict, judged) = VerdictExists areas run.first run.count in (Some verdict, (kept, judged))
+      | no broken ↦ (None, broken)
     ]
 
 pub SurveyDetermined : laws.SurveyDetermined
-SurveyDetermined areas words run BreaksARule BreaksARule p q = refl
-SurveyDetermined areas words run BreaksARule (Keeps verdict) p q = absurd (p q.0)
-SurveyDetermined areas words run (Keeps verdict) BreaksARule p q = absurd (q p.0)
-SurveyDetermined areas words run (Keeps x) (Keeps y) p q = ap Keeps (judged_determined areas run.first run.count x y p.1 q.1)
+SurveyDetermined areas words run None None p q = refl
+SurveyDetermined areas words run None (Some verdict) p q = absurd (p q.0)
+SurveyDetermined areas words run (Some verdict) None p q = absurd (q p.0)
+SurveyDetermined areas words run (Some x) (Some y) p q = ap Some (judged_determined areas run.first run.count x y p.1 q.1)
 
 -- ---- a list by value
 

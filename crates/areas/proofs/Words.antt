@@ -2,17 +2,23 @@
 -- Assumes nothing.
 use mathlib.Core.Path.{◌≡◌, refl, sym, ap, ◌∙◌}
 use mathlib.Core.Logic.{◌⊎◌, ◌≢◌, inl, inr}
-use mathlib.Core.List.{List, [], ◌∷◌}
-use Prim.Native.Nat.{ℕ, zero, suc, ◌+◌, ◌*◌, ◌%◌, ◌<◌}
+use mathlib.Core.List.{List, [], ◌∷◌, ◌++◌}
+use Prim.Native.Nat.{ℕ, zero, suc, ◌+◌, ◌*◌, ◌%◌, ◌≤◌, ◌<◌}
 use native.Mathlib.Decide.{dec_le}
 use native.Mathlib.Omega.{arith}
-use lib.ListN.{length, drop, get_or, replicate, length-replicate}
+use lib.ListN.{length, drop, get_or, get_or-append, replicate, length-append, length-drop, length-replicate}
+use lib.Seq.{drop-append_seam}
+use Rattle.std.specs.Prelude.{Result, Ok, Err, Some, None}
+use Rattle.std.specs.Result.{result_ok}
+use Rattle.std.proofs.lemmas.Option.{none-some, same_Some}
+use Rattle.std.proofs.lemmas.List.{get_or-drop, drop-drop}
 use Rattle.areas.specs.declared.Access.{Access}
 use Rattle.areas.specs.declared.Access.TheVariants.{ReadOnly, ReadWrite}
 use Rattle.areas.specs.declared.Area.{Area}
+use Rattle.areas.specs.declared.UnknownAccess.{UnknownAccess}
 use Rattle.areas.specs.Holding.{empty_area, area_at}
 use Rattle.areas.specs.Rules.{RulesKept}
-use Rattle.areas.specs.Words.{access_word, MeansNothing, area_words, OfNoList, StandFor}
+use Rattle.areas.specs.Words.{access_word, MeansNothing, AccessNamed, area_words, OfNoList, StandFor}
 
 pub words_length : (areas : List Area) → length (area_words areas) ≡ length areas * 3
 unfolding area_words
@@ -117,30 +123,59 @@ one_list (a ∷ as') (b ∷ bs) e =
 
 -- ---- what is read of the words, area by area
 
--- area i of the list whose words they are has the three words from 3 i on
-pub area_is : (words : List ℕ) (areas : List Area) (i : ℕ) (area : Area) → area_words areas ≡ words → i < length areas
-    → area.first ≡ get_or words (i * 3) 0 → area.count ≡ get_or words (i * 3 + 1) 0
-    → access_word area.access ≡ get_or words (i * 3 + 2) 0 → area_at areas i ≡ area
-area_is words areas i area e inside first count access =
-    let word : (k : ℕ) → k < 3 → get_or (three_words (area_at areas i)) k 0 ≡ get_or words (i * 3 + k) 0 =
-    λ k few. sym (word_at areas i k inside few) ∙ ap (λ (l : List ℕ). get_or l (i * 3 + k) 0) e in
-    let start : get_or words (i * 3 + 0) 0 ≡ get_or words (i * 3) 0 = ap (λ (n : ℕ). get_or words n 0) (omega arith) in
-    let firsts = word 0 (omega arith) ∙ start ∙ sym first in
-    let counts = word 1 (omega arith) ∙ sym count in
-    let accesses = access_apart (area_at areas i).access area.access (word 2 (omega arith) ∙ sym access) in
-    λ j. record { first = firsts j; count = counts j; access = accesses j }
+-- an access word that was taken, and one that was not
+pub means : (word : ℕ) (named : Result Access UnknownAccess) (access : Access) → AccessNamed word named → Some access ≡ result_ok named
+    → access_word access ≡ word
+means word (Ok same) access e taken = ap access_word (same_Some access same taken) ∙ e
+means word (Err unknown) access none taken = absurd (none-some access (sym taken))
+
+pub means_nothing : (word : ℕ) (named : Result Access UnknownAccess) → AccessNamed word named → None ≡ result_ok named
+    → MeansNothing access_word word
+means_nothing word (Ok access) e taken = absurd (none-some access taken)
+means_nothing word (Err unknown) (e, none) taken = none
 
 -- the access words of the first n areas mean something
 abbrev pub Named : List ℕ → ℕ → Type 0
 Named words n = (i : ℕ) → i < n → (access : Access) × (access_word access ≡ get_or words (i * 3 + 2) 0)
 
-pub named_more : (words : List ℕ) (n : ℕ) (access : Access) → access_word access ≡ get_or words (n * 3 + 2) 0 → Named words n
-    → Named words (n + 1)
-named_more words n access e named i less =
-    elim (dec_le n i) [
-      | yes reached ↦ let same : i ≡ n = omega (arith, less, reached) in (access, rw same e)
-      | no before ↦ named i (omega (arith, before))
-    ]
+-- the three words of area n: what is left of the words, from 3 n on, begins with them
+module _ (words entry left : List ℕ) (n : ℕ) (cut : drop (n * 3) words ≡ entry ++ left) (three : length entry ≡ 3) where
+  pub entry_inside : n * 3 + 3 ≤ length words
+  entry_inside = omega (arith, ap length cut, length-append entry left, length-drop (n * 3) words, three)
+
+  pub entry_left : drop ((n + 1) * 3) words ≡ left
+  entry_left =
+      let further : n * 3 + 3 ≡ (n + 1) * 3 = omega arith in
+      ap (λ (k : ℕ). drop k words) (sym further) ∙ sym (drop-drop 3 (n * 3) words) ∙ ap (drop 3) cut
+      ∙ ap (λ (k : ℕ). drop k (entry ++ left)) (sym three) ∙ drop-append_seam entry left
+
+  entry_word : (k : ℕ) → k < 3 → get_or entry k 0 ≡ get_or words (n * 3 + k) 0
+  entry_word k few =
+      let inside : k < length entry = omega arith in
+      sym (get_or-append entry left 0 k inside) ∙ ap (λ (l : List ℕ). get_or l k 0) (sym cut) ∙ get_or-drop (n * 3) words k 0
+
+  -- if the third stands for an access, they are those of area n of the list whose words they are
+  pub area_is : (access : Access) → access_word access ≡ get_or entry 2 0 → (areas : List Area) → area_words areas ≡ words
+      → (n < length areas) × (area_at areas n ≡ record { first = get_or entry 0 0; count = get_or entry 1 0; access = access })
+  area_is access named areas e =
+      let inside : n < length areas = omega (arith, words_length areas, ap length e, entry_inside) in
+      let word : (k : ℕ) → k < 3 → get_or (three_words (area_at areas n)) k 0 ≡ get_or entry k 0 =
+      λ k few. sym (word_at areas n k inside few) ∙ ap (λ (l : List ℕ). get_or l (n * 3 + k) 0) e ∙ sym (entry_word k few) in
+      let firsts = word 0 (omega arith) in
+      let counts = word 1 (omega arith) in
+      let accesses = access_apart (area_at areas n).access access (word 2 (omega arith) ∙ sym named) in
+      (inside, λ j. record { first = firsts j; count = counts j; access = accesses j })
+
+  -- if the third means nothing, they are of no list
+  pub of_entry : MeansNothing access_word (get_or entry 2 0) → OfNoList words
+  of_entry none = of_access words n (omega (arith, entry_inside)) (rw (← entry_word 2 (omega arith)) none)
+
+  pub named_more : Named words n → (access : Access) → access_word access ≡ get_or entry 2 0 → Named words (n + 1)
+  named_more named access e i less =
+      elim (dec_le n i) [
+        | yes reached ↦ let same : i ≡ n = omega (arith, less, reached) in (access, rw same (e ∙ entry_word 2 (omega arith)))
+        | no before ↦ named i (omega (arith, before))
+      ]
 
 -- if all do, and they are three for each area, they are the words of a list
 pub of_a_list : (words : List ℕ) (n : ℕ) → n * 3 ≡ length words → Named words n → OfNoList words → ⊥

@@ -1,13 +1,11 @@
 -- The laws of the areas, each proved under its name in proofs/Laws.antt.
 -- Assumes nothing.
-use Rattle.std.specs.Prelude.{◌≡◌, ◌↔◌, List, ℕ, ◌+◌, ◌≤◌, ◌<◌, length}
+use Rattle.std.specs.Prelude.{◌≡◌, ◌↔◌, List, ℕ, ◌+◌, ◌≤◌, ◌<◌, length, Option, None}
 use Rattle.promise.specs.Promise.{Determined}
 use Rattle.areas.specs.declared.Access.TheVariants.{ReadOnly, ReadWrite}
 use Rattle.areas.specs.declared.Area.{Area}
 use Rattle.areas.specs.declared.AreaList.{AreaList}
 use Rattle.areas.specs.declared.Run.{Run}
-use Rattle.areas.specs.declared.Finding.{Finding}
-use Rattle.areas.specs.declared.Finding.TheVariants.{BreaksARule}
 use Rattle.areas.specs.declared.Verdict.{Verdict}
 use Rattle.areas.specs.declared.Verdict.TheVariants.{AllReadWrite}
 use Rattle.areas.specs.Holding.{Holds, end_of, area_at, SomeArea, EachArea, EachTwo, Addressable, OfAreaWith}
@@ -90,12 +88,12 @@ OrderIgnored = (a b : List Area) (first count : ℕ) → EachArea a (λ area. So
 
 -- what is found of a list that is too long
 abbrev pub OverSixteen : Type 0
-OverSixteen = (areas : List Area) (words : ℕ) (run : Run) (finding : Finding) → most_areas < length areas
-    → Survey areas words run finding → finding ≡ BreaksARule
+OverSixteen = (areas : List Area) (words : ℕ) (run : Run) (finding : Option Verdict) → most_areas < length areas
+    → Survey areas words run finding → finding ≡ None
 
 -- there is a finding ..
 abbrev pub FindingExists : Type 0
-FindingExists = (areas : List Area) (words : ℕ) (run : Run) → (finding : Finding) × Survey areas words run finding
+FindingExists = (areas : List Area) (words : ℕ) (run : Run) → (finding : Option Verdict) × Survey areas words run finding
 
 -- .. and only one: the promise determines its answer
 abbrev pub SurveyDetermined : Type 0

@@ -6,4 +6,3 @@ pub mod Words
 pub mod Laws
 pub mod Following
 pub mod Search
-pub mod Naming

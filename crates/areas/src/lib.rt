@@ -2,14 +2,15 @@
 // No public function has a `requires`. The contracts cite specs/Calls.antt and specs/Words.antt.
 #![tactic(auto)]
 
-mod following;
-mod naming;
 mod search;
 
+ghost use Rattle.std.specs.Prelude.{◌≡◌};
+ghost use Rattle.promise.specs.Promise.{Decides};
 ghost use Rattle.areas.specs.Calls.{Survey};
-ghost use Rattle.areas.specs.Words.{SurveyWords};
+ghost use Rattle.areas.specs.Following.{Follows};
+ghost use Rattle.areas.specs.Holding.{end_of};
+ghost use Rattle.areas.specs.Words.{AccessNamed, SurveyWords};
 
-use naming::AccessNamed;
 use search::Search;
 
 // The most areas that a list may have.
@@ -21,36 +22,70 @@ pub const LIST_ENTRIES: usize = 17;
 // The words of an area in a list of words.
 const AREA_WORDS: usize = 3;
 
-#[derive(Clone, Copy)]
+#[derive(Clone, Copy, Debug, PartialEq, Eq)]
 pub enum Access {
     ReadOnly,
     ReadWrite,
 }
 
+// A word that stands for no access.
+#[derive(Clone, Copy, Debug, PartialEq, Eq)]
+pub struct UnknownAccess(pub u16);
+
+impl TryFrom<u16> for Access {
+    type Error = UnknownAccess;
+
+    ghost try_from_gives = { AccessNamed };
+
+    fn try_from(word: u16) -> Result<Self, UnknownAccess> {
+        match word {
+            0 => Ok(Access::ReadOnly),
+            1 => Ok(Access::ReadWrite),
+            _ => Err(UnknownAccess(word)),
+        }
+    }
+}
+
 // `count` words from word `first` on.
-#[derive(Clone, Copy)]
+#[derive(Clone, Copy, Debug, PartialEq, Eq)]
 pub struct Area {
     pub first: u16,
     pub count: u16,
     pub access: Access,
 }
 
+impl Area {
+    // The word behind the last one of the area.
+    fn end(self) -> usize
+        ensures { result ≡ end_of self }
+    {
+        self.first as usize + self.count as usize
+    }
+
+    // Whether the area has a word, starts no earlier than word `from`, and ends inside an image of `words` words.
+    fn follows(self, from: usize, words: usize) -> bool
+        ensures { Decides (Follows words from self) result }
+    {
+        1 <= self.count && from <= self.first as usize && self.end() <= words
+    }
+}
+
 // A list of areas by value: the first `len` of the entries.
-#[derive(Clone, Copy)]
+#[derive(Clone, Copy, Debug, PartialEq, Eq)]
 pub struct AreaList {
     pub entries: [Area; LIST_ENTRIES],
     pub len: usize,
 }
 
 // `count` words from word `first` on, of which a list is asked.
-#[derive(Clone, Copy)]
+#[derive(Clone, Copy, Debug, PartialEq, Eq)]
 pub struct Run {
     pub first: u16,
     pub count: u16,
 }
 
 // What is found of the words of a run.
-#[derive(Clone, Copy)]
+#[derive(Clone, Copy, Debug, PartialEq, Eq)]
 pub enum Verdict {
     // Some word lies in no area.
     SomeInNoArea,
@@ -60,60 +95,37 @@ pub enum Verdict {
     AllReadWrite,
 }
 
-// What is found of a list.
-#[derive(Clone, Copy)]
-pub enum Finding {
-    // It breaks a rule.
-    BreaksARule,
-    // It keeps the rules, and this is its verdict on the run.
-    Keeps(Verdict),
-}
-
-// Whether the list keeps the rules for an image of `words` words: it has at most 16 areas, each has a word, they ascend, don't
-// overlap, and end inside the image. And if it does, its verdict on the run; a run of no words is all read-write.
-pub fn survey(areas: &[Area], words: usize, run: Run) -> Finding
+// The list's verdict on the run, if the list keeps the rules for an image of `words` words: it has at most 16 areas, each has a
+// word, they ascend, don't overlap, and end inside the image. `None`: it breaks a rule. A run of no words is all read-write.
+pub fn survey(areas: &[Area], words: usize, run: Run) -> Option<Verdict>
     ensures { Survey areas.now words run result }
 {
-    let mut s = Search::begin(areas.len(), words, run);
-    let n = search::to_look_at(areas.len());
-    let mut i = 0;
-    while i < n {
-        s = s.look(areas[i]);
-        i += 1;
+    if MOST_AREAS < areas.len() {
+        return None;
     }
-    s.finding()
+    let mut search = Search::begin(words, run);
+    for &area in areas {
+        search = search.look(area)?;
+    }
+    Some(search.verdict())
 }
 
 // The same for a list that is lent as words, three for each area: first, count, access (0 read-only, 1 read-write). Words that are
 // those of no list break a rule.
-pub fn survey_words(area_words: &[u16], words: usize, run: Run) -> Finding
+pub fn survey_words(area_words: &[u16], words: usize, run: Run) -> Option<Verdict>
     ensures { SurveyWords area_words.now words run result }
 {
-    let n = area_words.len() / AREA_WORDS;
-    if area_words.len() % AREA_WORDS != 0 {
-        return Finding::BreaksARule;
+    if area_words.len() % AREA_WORDS != 0 || MOST_AREAS < area_words.len() / AREA_WORDS {
+        return None;
     }
-    if MOST_AREAS < n {
-        return Finding::BreaksARule;
-    }
-    let mut s = Search::begin_at(n, words, run.first, run.count);
-    let mut i = 0;
-    while i < n {
-        let at = i * AREA_WORDS;
-        let named = naming::access(area_words[at + 2]);
-        let AccessNamed::Names(access) = named else {
-            return Finding::BreaksARule;
-        };
+    let mut search = Search::begin(words, run);
+    for entry in area_words.chunks_exact(AREA_WORDS) {
         let area = Area {
-            first: area_words[at],
-            count: area_words[at + 1],
-            access,
+            first: entry[0],
+            count: entry[1],
+            access: Access::try_from(entry[2]).ok()?,
         };
-        s = s.look(area);
-        if !s.kept {
-            return Finding::BreaksARule;
-        }
-        i += 1;
+        search = search.look(area)?;
     }
-    s.finding()
+    Some(search.verdict())
 }

@@ -1,12 +1,11 @@
 // A search of a list of areas, one area at a time: whether they keep the rules, and how much of a run they hold. Areas that keep
-// the rules ascend, so one pass is enough; behind one that breaks a rule nothing more is found out.
-ghost use Rattle.std.specs.Prelude.{◌≤◌};
+// the rules ascend, so one pass is enough.
 ghost use Rattle.promise.specs.Promise.{Decides};
-ghost use Rattle.areas.specs.Search.{Enough, Begun, Past, Meets, Looked, Judges, Concluded};
+ghost use Rattle.areas.specs.Search.{Begun, Past, Meets, Looked, Judges};
 
-use super::following::{end_of, follows};
-use super::{Access, Area, Finding, MOST_AREAS, Run, Verdict};
+use super::{Access, Area, Run, Verdict};
 
+// What is known once the areas looked at so far have kept the rules.
 #[derive(Clone, Copy)]
 pub(crate) struct Search {
     // the words of the image
@@ -14,9 +13,7 @@ pub(crate) struct Search {
     // the run: its first word, and the one behind its last
     pub first: usize,
     pub end: usize,
-    // no rule was found broken
-    pub kept: bool,
-    // the word behind the last area that kept the rules
+    // the word behind the last area that was looked at
     pub from: usize,
     // each word of the run before this one is in some area
     pub reached: usize,
@@ -24,51 +21,27 @@ pub(crate) struct Search {
     pub read_only: bool,
 }
 
-// How many areas to look at: of a list that is too long, none.
-pub(crate) fn to_look_at(len: usize) -> usize
-    ensures { Enough len result }
-{
-    if MOST_AREAS < len { 0 } else { len }
-}
-
 impl Search {
-    // A search, in a list of `len` areas, that has looked at none.
-    pub(crate) fn begin(len: usize, words: usize, run: Run) -> Self
-        ensures { Begun len words run result }
+    // A search that has looked at no area.
+    pub(crate) fn begin(words: usize, run: Run) -> Self
+        ensures { Begun words run result }
     {
-        Search::begin_at(len, words, run.first, run.count)
-    }
-
-    // The same for the run of `count` words from `first` on.
-    pub(crate) fn begin_at(len: usize, words: usize, first: u16, count: u16) -> Self
-        ensures { Begun len words (record { first = first; count = count }) result }
-    {
+        let first = run.first as usize;
         Search {
             words,
-            first: first as usize,
-            end: first as usize + count as usize,
-            kept: len <= MOST_AREAS,
+            first,
+            end: first + run.count as usize,
             from: 0,
-            reached: first as usize,
+            reached: first,
             read_only: false,
         }
     }
 
     // Whether the area holds a word of the run.
     fn meets(self, area: Area) -> bool
-        requires { 1 ≤ area.count }
         ensures { Decides (Meets area self.first self.end) result }
     {
-        if self.end <= area.first as usize {
-            return false;
-        }
-        if end_of(area) <= self.first {
-            return false;
-        }
-        if self.end <= self.first {
-            return false;
-        }
-        true
+        self.first.max(area.first as usize) < self.end.min(area.end())
     }
 
     // The first word from the one reached on that the area doesn't hold.
@@ -76,59 +49,39 @@ impl Search {
         ensures { Past area self.reached result }
     {
         if self.reached < area.first as usize {
-            return self.reached;
+            self.reached
+        } else {
+            self.reached.max(area.end())
         }
-        if self.reached < end_of(area) {
-            return end_of(area);
-        }
-        self.reached
     }
 
-    // A look at the next area.
-    pub(crate) fn look(mut self, area: Area) -> Self
+    // A look at the next area. `None`: it breaks a rule.
+    pub(crate) fn look(mut self, area: Area) -> Option<Self>
         ensures { Looked self area result }
     {
-        if !self.kept {
-            return self;
+        if !area.follows(self.from, self.words) {
+            return None;
         }
-        if !follows(area, self.from, self.words) {
-            self.kept = false;
-            return self;
+        self.from = area.end();
+        if self.meets(area) {
+            self.reached = self.past(area);
+            if area.access == Access::ReadOnly {
+                self.read_only = true;
+            }
         }
-        self.from = end_of(area);
-        if !self.meets(area) {
-            return self;
-        }
-        let reached = self.past(area);
-        self.reached = reached;
-        let access = area.access;
-        match access {
-            Access::ReadOnly => self.read_only = true,
-            Access::ReadWrite => {}
-        }
-        self
+        Some(self)
     }
 
     // The verdict of a search that has looked at all areas.
-    fn verdict(self) -> Verdict
+    pub(crate) fn verdict(self) -> Verdict
         ensures { Judges self result }
     {
         if self.reached < self.end {
-            return Verdict::SomeInNoArea;
+            Verdict::SomeInNoArea
+        } else if self.read_only {
+            Verdict::SomeReadOnly
+        } else {
+            Verdict::AllReadWrite
         }
-        if self.read_only {
-            return Verdict::SomeReadOnly;
-        }
-        Verdict::AllReadWrite
-    }
-
-    // What it has found.
-    pub(crate) fn finding(self) -> Finding
-        ensures { Concluded self result }
-    {
-        if !self.kept {
-            return Finding::BreaksARule;
-        }
-        Finding::Keeps(self.verdict())
     }
 }

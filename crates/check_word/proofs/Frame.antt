@@ -1,6 +1,6 @@
 -- Frames: a body with its check word behind it is right, and of bytes if the body is; a right frame leaves the word 0.
 -- Assumes nothing.
-use mathlib.Core.Path.{◌≡◌, refl, sym, ap, ap₂, subst, ◌∙◌}
+use mathlib.Core.Path.{◌≡◌, sym, ap, ap₂, subst, ◌∙◌}
 use mathlib.Core.Bool.{true}
 use mathlib.Core.List.{List, [], ◌∷◌, ◌++◌}
 use Prim.Native.Nat.{ℕ, zero, suc, ◌+◌, ◌-◌, ◌/◌, ◌%◌, ◌^◌, ◌<◌}
@@ -9,7 +9,7 @@ use lib.Bits.{bit_xor, xor_self, xor_comm, xor_lt}
 use lib.Dec.{lit<}
 use lib.ListN.{length, take, drop, length-append, take-append-drop}
 use lib.Seq.{take_at, drop_at, length-take-le}
-use Rattle.check_word.specs.CheckWord.{start, corrected, step, steps, add_bytes, check_word}
+use Rattle.check_word.specs.CheckWord.{start, corrected, step, steps, check_word}
 use Rattle.promise.specs.Promise.{Attempt}
 use Rattle.check_word.specs.Frame.{Bytes, low_first, framed, Right, Put}
 use Rattle.check_word.specs.Line.{line_bits, differences, Damaged}
@@ -39,13 +39,6 @@ put_right n before after put =
     let front : take (n + 2) after ≡ framed body =
     ap (take (n + 2)) put.1 ∙ take_at (framed body) (drop (n + 2) before) (n + 2) size in
     subst Right (sym front) (framed_right body)
-
--- ---- no bytes
-
-pub of_none : (bytes : List ℕ) → length bytes ≡ 0 → start ≡ check_word bytes
-unfolding check_word add_bytes
-of_none [] h = refl
-of_none (b ∷ bs) h = absurd (omega arith)
 
 -- ---- bytes
 

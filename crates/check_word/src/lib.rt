@@ -4,7 +4,8 @@
 
 mod table;
 
-ghost use Rattle.std.specs.Prelude.{◌≡◌, ◌≤◌, length, take};
+ghost use Rattle.std.specs.Prelude.{◌≡◌};
+ghost use Rattle.std.specs.Result.{is_ok};
 ghost use Rattle.promise.specs.Promise.{Decides};
 ghost use Rattle.check_word.specs.CheckWord.{add_byte, check_word};
 ghost use Rattle.check_word.specs.Frame.{Right, Put};
@@ -19,41 +20,13 @@ fn add_byte(word: u32, byte: u8) -> u32
     (table::entry(mixed) as u32) ^ (word / 256)
 }
 
-// The check word of the bytes.
+// The check word of the bytes. Until it is returned it stands in 32 bits, for speed; the upper sixteen are 0.
 pub fn check_word(bytes: &[u8]) -> u16
     ensures { result ≡ check_word bytes.now }
 {
-    if bytes.len() == 0 {
-        return START as u16;
-    }
-    word_of_some(bytes)
-}
-
-// The check word of the first n bytes.
-fn word_of_first(bytes: &[u8], n: usize) -> u16
-    requires { n ≤ length bytes.now }
-    ensures { result ≡ check_word (take n bytes.now) }
-{
-    if n == 0 {
-        return START as u16;
-    }
-    word_of_some(&bytes[..n])
-}
-
-// The check word of one byte or more. Callers test for none: most know that there are some, and the compiler drops their test.
-// Until it is returned the word stands in 32 bits, for speed; the upper sixteen are 0.
-fn word_of_some(bytes: &[u8]) -> u16
-    requires { 1 ≤ length bytes.now }
-    ensures { result ≡ check_word bytes.now }
-{
     let mut word = START;
-    let mut i = 0;
-    loop {
-        word = add_byte(word, bytes[i]);
-        i += 1;
-        if i == bytes.len() {
-            break;
-        }
+    for byte in bytes {
+        word = add_byte(word, *byte);
     }
     (word % 65536) as u16
 }
@@ -62,29 +35,26 @@ fn word_of_some(bytes: &[u8]) -> u16
 pub fn is_right(frame: &[u8]) -> bool
     ensures { Decides (Right frame.now) result }
 {
-    if frame.len() < 2 {
+    let [body @ .., low, high] = frame else {
         return false;
-    }
-    let n = frame.len() - 2;
-    let word = word_of_first(frame, n);
-    let low = frame[n] as u16;
-    let high = frame[n + 1] as u16;
-    word == low + high * 256
+    };
+    check_word(body) == u16::from_le_bytes([*low, *high])
 }
 
-// Puts the check word of the buffer's first n bytes behind them, low byte first, and says whether there was room.
+// There is no room for a check word.
+#[derive(Clone, Copy, Debug, PartialEq, Eq)]
+pub struct NoRoom;
+
+// Puts the check word of the buffer's first n bytes behind them, low byte first.
 // Every other byte keeps its content; without room all do.
-pub fn put_check_word(buffer: &mut [u8], n: usize) -> bool
-    ensures { Put n buffer.old result buffer.new }
+pub fn put_check_word(buffer: &mut [u8], n: usize) -> Result<(), NoRoom>
+    ensures { Put n buffer.old (is_ok result) buffer.new }
 {
-    if buffer.len() < 2 {
-        return false;
+    if buffer.len().saturating_sub(n) < 2 {
+        return Err(NoRoom);
     }
-    if buffer.len() - 2 < n {
-        return false;
-    }
-    let word = word_of_first(buffer, n);
-    buffer[n] = (word % 256) as u8;
-    buffer[n + 1] = (word / 256) as u8;
-    true
+    let [low, high] = check_word(&buffer[..n]).to_le_bytes();
+    buffer[n] = low;
+    buffer[n + 1] = high;
+    Ok(())
 }

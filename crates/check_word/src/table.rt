@@ -277,10 +277,8 @@ fn worked_out(byte: u8) -> u16
     ensures { steps_back 8 result ≡ byte }
 {
     let mut word = byte as u16;
-    let mut done: usize = 0;
-    while done < 8 {
+    for _done in 0..8u8 {
         word = step_once(word);
-        done += 1;
     }
     word
 }

@@ -92,6 +92,16 @@ stored_word image word v inside fit small =
       | inr l ↦ bit_past 16 v p small (omega arith) ∙ sym (bit_past 16 (get_or image word 0) p (fit word) (omega arith))
     ])
 
+-- whole words of a run, and then the next word of it
+pub stored_next : (word i v : ℕ) (run : ℕ → ℕ) (x y : List ℕ) → word + i < length x
+    → BitsStored (word * word_bits) (i * word_bits) run x y → Shows word_bits (from (i * word_bits) run) v
+    → BitsStored (word * word_bits) ((i + 1) * word_bits) run x (set y (word + i) v)
+stored_next word i v run x y inside done shows =
+    let more : i * 16 + 16 ≡ (i + 1) * 16 = omega arith in
+    subst (λ (m : ℕ). BitsStored (word * 16) m run x (set y (word + i) v)) more
+    (stored_more word i 16 v run x y (set y (word + i) v) (omega arith) done shows
+    (stored_word y (word + i) v (omega (arith, done.as_long)) done.words_fit shows.small))
+
 -- ---- words
 
 pub words_stored_none : (first : ℕ) (run : ℕ → ℕ) (image : List ℕ) → WordsStored first 0 run image image

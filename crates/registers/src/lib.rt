@@ -1,179 +1,137 @@
 // The image of registers, one memory seen as words and as bits: runs packed into a lent buffer, and stored from bytes.
 // No public function has a `requires`. The contracts cite specs/Calls.antt.
-#![tactic(auto)]
+#![tactic(auto, unfolding(promise::specs::Promise::Attempt))]
 
 mod pieces;
 
-ghost use Rattle.std.specs.Prelude.{◌≡◌, ◌+◌, ◌*◌, ◌≤◌, ◌<◌};
+ghost use Rattle.std.specs.Prelude.{◌+◌, ◌*◌, ◌≤◌, ◌↔◌, IsTrue};
+ghost use Rattle.std.specs.Result.{is_ok};
 ghost use Rattle.promise.specs.Promise.{Decides};
 ghost use Rattle.registers.specs.Memory.{word_bits};
 ghost use Rattle.registers.specs.Packing.{bytes_for_bits, bytes_for_words};
-ghost use Rattle.registers.specs.Calls.{PackBits, PackWords, bit_value, StoreBit, StoreWord, StoreBits, StoreWords};
+ghost use Rattle.registers.specs.Calls.{PackBits, PackWords, StoreBit, StoreWord, StoreBits, StoreWords};
 
 // The bits of a word, and of a byte.
 pub const WORD_BITS: usize = 16;
 
 pub const BYTE_BITS: usize = 8;
 
-// Numbers below this one can be added up. The callers' are, and the compiler sees it.
-const SMALL: usize = 65536;
+// The run, or the place, does not lie inside the image, or the bytes lent are too few for it.
+#[derive(Clone, Copy, Debug, PartialEq, Eq)]
+pub struct OutOfRange;
 
-// Whether a run of words lies inside an image of `words` words, and takes no more than `bytes` bytes.
-fn words_fit(words: usize, first: usize, count: usize, bytes: usize) -> bool
-    ensures { Decides ((first + count ≤ words) × (bytes_for_words count ≤ bytes)) result }
+// Whether a run lies inside so many places. Their number, and the run's end, may be more than a `usize` can hold.
+fn lies_inside(first: usize, count: usize, places: u128) -> bool
+    ensures { IsTrue result ↔ (first + count ≤ places) }
 {
-    if first < SMALL {
-        if count < SMALL {
-            return small_words_fit(words, first, count, bytes);
-        }
-    }
-    if words < first {
-        return false;
-    }
-    if words - first < count {
-        return false;
-    }
-    if bytes / 2 < count {
-        return false;
-    }
-    true
+    first as u128 + count as u128 <= places
 }
 
-// The same for small numbers.
-fn small_words_fit(words: usize, first: usize, count: usize, bytes: usize) -> bool
-    requires { (first < 65536) × (count < 65536) }
-    ensures { Decides ((first + count ≤ words) × (bytes_for_words count ≤ bytes)) result }
+// Refuses a run of words that does not lie inside an image of `words` words, or takes more than `bytes` bytes.
+fn check_words(words: usize, first: usize, count: usize, bytes: usize) -> Result<(), OutOfRange>
+    ensures { Decides ((first + count ≤ words) × (bytes_for_words count ≤ bytes)) (is_ok result) }
 {
-    if words < first + count {
-        return false;
+    if lies_inside(first, count, words as u128) && count <= bytes / 2 {
+        Ok(())
+    } else {
+        Err(OutOfRange)
     }
-    if bytes < 2 * count {
-        return false;
-    }
-    true
 }
 
-// Whether a run of bits lies inside an image of `words` words, and takes no more than `bytes` bytes. It counts the words that
-// the run touches, since an image may have more bits than a `usize` can count.
-fn bits_fit(words: usize, first: usize, count: usize, bytes: usize) -> bool
-    ensures { Decides ((first + count ≤ words * word_bits) × (bytes_for_bits count ≤ bytes)) result }
+// The same of a run of bits.
+fn check_bits(words: usize, first: usize, count: usize, bytes: usize) -> Result<(), OutOfRange>
+    ensures { Decides ((first + count ≤ words * word_bits) × (bytes_for_bits count ≤ bytes)) (is_ok result) }
 {
-    if first < SMALL {
-        if count < SMALL {
-            return small_bits_fit(words, first, count, bytes);
-        }
+    if lies_inside(first, count, words as u128 * 16) && count.div_ceil(BYTE_BITS) <= bytes {
+        Ok(())
+    } else {
+        Err(OutOfRange)
     }
-    if words < first / WORD_BITS {
-        return false;
-    }
-    if words - first / WORD_BITS
-        < count / WORD_BITS + (first % WORD_BITS + count % WORD_BITS + 15) / WORD_BITS
-    {
-        return false;
-    }
-    if bytes < count / BYTE_BITS + (count % BYTE_BITS + 7) / BYTE_BITS {
-        return false;
-    }
-    true
-}
-
-// The same for small numbers.
-fn small_bits_fit(words: usize, first: usize, count: usize, bytes: usize) -> bool
-    requires { (first < 65536) × (count < 65536) }
-    ensures { Decides ((first + count ≤ words * word_bits) × (bytes_for_bits count ≤ bytes)) result }
-{
-    if words < (first + count + 15) / WORD_BITS {
-        return false;
-    }
-    if bytes < (count + 7) / BYTE_BITS {
-        return false;
-    }
-    true
-}
-
-// A bit as a number.
-fn bit_value(on: bool) -> u16
-    ensures { result ≡ bit_value on }
-{
-    if on { 1 } else { 0 }
 }
 
 // Packs a run of bits into the start of the buffer: eight to a byte, first bit lowest, spare bits of the last byte 0.
-// False: the run does not lie inside the image, or the buffer is too short; nothing has changed.
-pub fn pack_bits(image: &[u16], first: usize, count: usize, buffer: &mut [u8]) -> bool
-    ensures { PackBits image.now first count buffer.old result buffer.new }
+// Out of range: nothing has changed.
+pub fn pack_bits(
+    image: &[u16],
+    first: usize,
+    count: usize,
+    buffer: &mut [u8],
+) -> Result<(), OutOfRange>
+    ensures { PackBits image.now first count buffer.old (is_ok result) buffer.new }
 {
-    if !bits_fit(image.len(), first, count, buffer.len()) {
-        return false;
-    }
+    check_bits(image.len(), first, count, buffer.len())?;
     pieces::pack_run(image, first, count, buffer);
-    true
+    Ok(())
 }
 
-// Packs a run of words into the start of the buffer: two bytes each, high byte first.
-// False: the run does not lie inside the image, or the buffer is too short; nothing has changed.
-pub fn pack_words(image: &[u16], first: usize, count: usize, buffer: &mut [u8]) -> bool
-    ensures { PackWords image.now first count buffer.old result buffer.new }
+// Packs a run of words into the start of the buffer: two bytes each, high byte first. Out of range: nothing has changed.
+pub fn pack_words(
+    image: &[u16],
+    first: usize,
+    count: usize,
+    buffer: &mut [u8],
+) -> Result<(), OutOfRange>
+    ensures { PackWords image.now first count buffer.old (is_ok result) buffer.new }
 {
-    if !words_fit(image.len(), first, count, buffer.len()) {
-        return false;
+    check_words(image.len(), first, count, buffer.len())?;
+    for i in 0..count {
+        let [high, low] = image[first + i].to_be_bytes();
+        buffer[2 * i] = high;
+        buffer[2 * i + 1] = low;
     }
-    let mut i = 0;
-    while i < count {
-        let value = image[first + i];
-        buffer[2 * i] = (value / 256) as u8;
-        buffer[2 * i + 1] = (value % 256) as u8;
-        i += 1;
-    }
-    true
+    Ok(())
 }
 
-// Sets bit k of the image on or off. False: there is no such bit; nothing has changed.
-pub fn store_bit(image: &mut [u16], k: usize, on: bool) -> bool
-    ensures { StoreBit k on image.old result image.new }
+// Sets bit k of the image on or off. Out of range: there is no such bit; nothing has changed.
+pub fn store_bit(image: &mut [u16], k: usize, on: bool) -> Result<(), OutOfRange>
+    ensures { StoreBit k on image.old (is_ok result) image.new }
 {
     if image.len() <= k / WORD_BITS {
-        return false;
+        return Err(OutOfRange);
     }
-    pieces::store_piece(image, k / WORD_BITS, k % WORD_BITS, 1, bit_value(on));
-    true
+    pieces::store_piece(image, k / WORD_BITS, k % WORD_BITS, 1, u16::from(on));
+    Ok(())
 }
 
-// Sets word k of the image. False: there is no such word; nothing has changed.
-pub fn store_word(image: &mut [u16], k: usize, value: u16) -> bool
-    ensures { StoreWord k value image.old result image.new }
+// Sets word k of the image. Out of range: there is no such word; nothing has changed.
+pub fn store_word(image: &mut [u16], k: usize, value: u16) -> Result<(), OutOfRange>
+    ensures { StoreWord k value image.old (is_ok result) image.new }
 {
     if image.len() <= k {
-        return false;
+        return Err(OutOfRange);
     }
     image[k] = value;
-    true
+    Ok(())
 }
 
 // Stores a run of bits from packed bytes; the last byte's spare bits, and bytes past it, are ignored.
-// False: the run does not lie inside the image, or the bytes are too few; nothing has changed.
-pub fn store_bits(image: &mut [u16], first: usize, count: usize, bytes: &[u8]) -> bool
-    ensures { StoreBits first count bytes.now image.old result image.new }
+// Out of range: nothing has changed.
+pub fn store_bits(
+    image: &mut [u16],
+    first: usize,
+    count: usize,
+    bytes: &[u8],
+) -> Result<(), OutOfRange>
+    ensures { StoreBits first count bytes.now image.old (is_ok result) image.new }
 {
-    if !bits_fit(image.len(), first, count, bytes.len()) {
-        return false;
-    }
+    check_bits(image.len(), first, count, bytes.len())?;
     pieces::store_run(image, first, count, bytes);
-    true
+    Ok(())
 }
 
 // Stores a run of words from bytes, two for each word, high byte first; bytes past them are ignored.
-// False: the run does not lie inside the image, or the bytes are too few; nothing has changed.
-pub fn store_words(image: &mut [u16], first: usize, count: usize, bytes: &[u8]) -> bool
-    ensures { StoreWords first count bytes.now image.old result image.new }
+// Out of range: nothing has changed.
+pub fn store_words(
+    image: &mut [u16],
+    first: usize,
+    count: usize,
+    bytes: &[u8],
+) -> Result<(), OutOfRange>
+    ensures { StoreWords first count bytes.now image.old (is_ok result) image.new }
 {
-    if !words_fit(image.len(), first, count, bytes.len()) {
-        return false;
+    check_words(image.len(), first, count, bytes.len())?;
+    for n in 0..count {
+        image[first + n] = u16::from_be_bytes([bytes[2 * n], bytes[2 * n + 1]]);
     }
-    let mut n = 0;
-    while n < count {
-        image[first + n] = (bytes[2 * n] as u16) * 256 + (bytes[2 * n + 1] as u16);
-        n += 1;
-    }
-    true
+    Ok(())
 }

@@ -1,17 +1,10 @@
 -- The invariant of `store_byte_pairs`: the first i words are stored.
 -- Assumes nothing.
-use Rattle.std.proofs.Common.{◌*◌, ◌≤◌, ◌-◌}
+use Rattle.std.proofs.Common.{◌*◌}
 use Rattle.registers.specs.Memory.{word_bits, byte_bits, from}
 use Rattle.registers.specs.Packing.{packed_bit}
 use Rattle.registers.specs.Storing.{BitsStored}
 use Rattle.registers.proofs.pieces.store_byte_pairs.Given as goal
 
 abbrev pub invariant-loop-i : goal.invariant-loop-i
-invariant-loop-i l =
-    record {
-      in_range : l.i ≤ l.whole;
-      stored : BitsStored (l.word * word_bits) (l.i * word_bits) (from (l.at * byte_bits) (packed_bit l.bytes)) l.fn.image l.image;
-    }
-
-abbrev pub decreases-loop-i : goal.decreases-loop-i
-decreases-loop-i l = l.whole - l.i
+invariant-loop-i l = BitsStored (l.word * word_bits) (l.i * word_bits) (from (l.at * byte_bits) (packed_bit l.bytes)) l.fn.image l.image

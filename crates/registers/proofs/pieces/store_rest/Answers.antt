@@ -14,7 +14,7 @@ returns c =
     let count = c.args.count in
     let before = c.args.image.now in
     let after = c.store_piece.new.image in
-    let run = from (c.args.at * 8 + c.args.place) (packed_bit bytes) in
+    let run = from c.args.first (packed_bit bytes) in
     let all : count / 16 * 16 + count % 16 ≡ count = omega arith in
     subst (λ (m : ℕ). BitsStored (c.args.word * 16) m run before after) all
     (stored_more c.args.word (count / 16) (count % 16) c.packed_bits.result run before c.store_whole.new.image after (omega arith)

@@ -19,7 +19,7 @@ first_word first width bits bytes x y h shows s =
     (rw (div-add-mod' first 16) at s)
 
 -- the rest, if there is one, starts behind them
-rest_behind : (first count n : ℕ) (run : ℕ → ℕ) (x y : List ℕ) → n ≡ min (16 - first % 16) count → n < count
+rest_behind : (first count n : ℕ) (run : ℕ → ℕ) (x y : List ℕ) → n ≡ min count (16 - first % 16) → n < count
     → BitsStored ((first / 16 + 1) * word_bits) (count - n) run x y → BitsStored (first + n) (count - n) run x y
 rest_behind first count n run x y e more s =
     let at : (first / 16 + 1) * 16 ≡ first + n = omega arith in
@@ -33,11 +33,9 @@ returns c =
     let before = c.args.image.now in
     let mid = c.store_piece.new.image in
     let after = c.store_rest.new.image in
-    let n = c.smaller-head.result in
+    let n = c.min-head.result in
     let all : n + (count - n) ≡ count = omega arith in
     subst (λ (m : ℕ). BitsStored first m (packed_bit bytes) before after) all
     (stored_join
     (first_word first n c.packed_bits.result bytes before mid (omega arith) c.packed_bits.ensures c.store_piece.ensures)
-    (rest_behind first count n (from n (packed_bit bytes)) mid after c.smaller-head.ensures (omega arith)
-    (subst (λ (k : ℕ). BitsStored ((first / 16 + 1) * 16) (count - n) (from k (packed_bit bytes)) mid after)
-    (div-add-mod' n 8) c.store_rest.ensures)))
+    (rest_behind first count n (from n (packed_bit bytes)) mid after c.min-head.ensures (omega arith) c.store_rest.ensures))

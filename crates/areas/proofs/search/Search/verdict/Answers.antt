@@ -4,4 +4,4 @@ use Rattle.areas.proofs.Looking.{word_in_no_area}
 use Rattle.areas.proofs.search.Search.verdict.Goals as goal
 
 pub returns-then-self : goal.returns-then-self
-returns-then-self c = λ areas words run so kept. word_in_no_area areas words run c.args.self so kept c.if-self.true
+returns-then-self c = λ areas words run so. word_in_no_area areas words run c.args.self so c.if-self.true
