@@ -13,7 +13,7 @@ use Rattle.slave.specs.declared.Outcome.TheVariants.{Refused, Silent, Exception,
 use Rattle.slave.specs.Numbers.{refusal_number, silence_number}
 use Rattle.slave.specs.Answer.{Call, Answer, Answers}
 use Rattle.slave.proofs.Laws.{ReplyLength}
-use Rattle.lines.specs.declared.Line.TheVariants.{Frame}
+use Rattle.std.proofs.Common.{Some}
 use Rattle.lines.specs.Hex.{blank, spaced, Says, ReadFrame}
 use Rattle.lines.specs.Lines.{line_feed}
 use Rattle.lines.specs.Outcomes.{reply_word, refused_word, silent_word, decimal, outcome_text, as_line}
@@ -48,7 +48,7 @@ answer_fits call answer allowed = fits answer.outcome refl
         omega (arith, ended reply_word (spaced (take n answer.reply)), shown n answer.reply, most)
 
 -- the frame that was read, in the start of its buffer
-pub frame_read : (line before after : List ℕ) (n : ℕ) → length before ≡ 300 → ReadFrame line before (Frame n) after
+pub frame_read : (line before after : List ℕ) (n : ℕ) → length before ≡ 300 → ReadFrame line before (Some n) after
     → (n ≤ length after) × Says line (take n after)
 unfolding ReadFrame
 frame_read line before after n size (bytes, says, long, stands) =

@@ -57,9 +57,6 @@ module _ (block line line_after : List ℕ) (held : ℕ) (taken : Taken) (took :
   pub held_within : taken.held ≤ length line
   held_within = omega (arith, took.told, size)
 
-  pub held_inside : taken.held ≤ length line_after
-  held_inside = omega (arith, held_within, same_size)
-
   -- the buffer holds the line as far as it goes
   held_start : (begun : List ℕ) → Holds line held begun
       → take taken.held line_after ≡ take (length line) (begun ++ up_to_feed block)
@@ -72,20 +69,13 @@ module _ (block line line_after : List ℕ) (held : ℕ) (taken : Taken) (took :
   unfed_more : (begun : List ℕ) → Holds line held begun → Unfed (begun ++ up_to_feed block)
   unfed_more begun holds = unfed_append begun (up_to_feed block) holds.unfed (feed_again block)
 
-  so_far : (taken.used ≤ length block) × (0 < length block → 0 < taken.used)
-  so_far = either taken.whole took.whole_if took.used_up
+  pub used_within : taken.used ≤ length block
+  used_within = either taken.whole took.whole_if took.used_up
     where
       either : (whole : Bool) → Decides (length (up_to_feed block) < length block) whole
-          → taken.used ≡ length (up_to_feed block) + cond whole 1 0
-          → (taken.used ≤ length block) × (0 < length block → 0 < taken.used)
-      either true fed used = (omega (arith, fed, used), λ some. omega (arith, used))
-      either false unfed used = (omega (arith, used, feed_within block), λ some. omega (arith, used, some, unfed))
-
-  pub used_within : taken.used ≤ length block
-  used_within = so_far.0
-
-  pub moves_on : 0 < length block → 0 < taken.used
-  moves_on = so_far.1
+          → taken.used ≡ length (up_to_feed block) + cond whole 1 0 → taken.used ≤ length block
+      either true fed used = omega (arith, fed, used)
+      either false unfed used = omega (arith, used, feed_within block)
 
   -- what came: the characters up to the line feed, and it where there is one
   came : (begun : List ℕ) (whole : Bool) → taken.whole ≡ whole

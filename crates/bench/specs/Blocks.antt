@@ -1,10 +1,8 @@
 -- How the lines of an input are answered block by block, for the contracts of private functions alone. The line that a block has begun
 -- is held in a buffer, as far as the buffer goes.
 -- Assumes nothing.
-use Rattle.std.specs.Prelude.{◌≡◌, List, ◌++◌, ℕ, ◌≤◌, ◌<◌, length, take}
+use Rattle.std.specs.Prelude.{◌≡◌, Option, Some, None, List, ◌++◌, ℕ, ◌≤◌, ◌<◌, length, take}
 use Rattle.bench.specs.declared.answer.Progress.{Progress}
-use Rattle.bench.specs.declared.Next.{Next}
-use Rattle.bench.specs.declared.Next.TheVariants.{Held, Ended}
 use Rattle.bench.specs.Bench.{Stands}
 use Rattle.bench.specs.Input.{Unfed, Cut, AllAnswered}
 
@@ -36,12 +34,12 @@ abbrev pub Moves : List ℕ → Progress → Type 0
 Moves block done = 0 < length block → 0 < done.used
 
 -- what is held of the next line lies inside its buffer
-abbrev pub HeldWithin : ℕ → Next → Type 0
-HeldWithin size (Held n) = n ≤ size
-HeldWithin size Ended = Unit
+abbrev pub HeldWithin : ℕ → Option ℕ → Type 0
+HeldWithin size (Some n) = n ≤ size
+HeldWithin size None = Unit
 
 -- the whole of a block has passed, unless the output has ended
-unfoldable pub BlockPassed : (block buffer : List ℕ) (held : ℕ) (image buffer_after image_after : List ℕ) → Next → Type 0
-BlockPassed block buffer held image buffer_after image_after (Held n) =
+unfoldable pub BlockPassed : (block buffer : List ℕ) (held : ℕ) (image buffer_after image_after : List ℕ) → Option ℕ → Type 0
+BlockPassed block buffer held image buffer_after image_after (Some n) =
     (answers : List ℕ) × Passed block buffer held image buffer_after n image_after answers
-BlockPassed block buffer held image buffer_after image_after Ended = Unit
+BlockPassed block buffer held image buffer_after image_after None = Unit

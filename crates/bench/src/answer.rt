@@ -8,7 +8,6 @@ ghost use Rattle.bench.specs.Blocks.{Progressed, Moves};
 ghost use Rattle.bench.specs.Bench.{registers_at_first, FrameAnswered, Answered, longest_answer, Stands};
 
 use areas::{Access, Area, AreaList};
-use lines::Line;
 use slave::{Counting, State, Station};
 
 // The most characters of an answer.
@@ -16,7 +15,7 @@ const LONGEST_ANSWER: usize = 501;
 
 // How far a block is answered: so many of its bytes are used up, so many characters of the next line are held, and so many
 // characters of the text are written.
-#[derive(Clone, Copy)]
+#[derive(Clone, Copy, Debug, PartialEq, Eq)]
 pub(crate) struct Progress {
     pub used: usize,
     pub held: usize,
@@ -68,7 +67,7 @@ fn answer_frame(frame: &[u8], image: &mut [u16], text: &mut [u8]) -> usize
     };
     let mut reply = [0u8; slave::LEAST_ROOM];
     let outcome = slave::respond_by_value(station, two_areas(), frame, image, &mut reply);
-    lines::write_outcome(outcome, &reply, text)
+    lines::write_outcome(outcome, &reply, text).unwrap()
 }
 
 // Answers a line, and tells how long the answer in the start of the text is.
@@ -78,8 +77,8 @@ pub(crate) fn answer(line: &[u8], image: &mut [u16], text: &mut [u8]) -> usize
 {
     let mut frame = [0u8; lines::MOST_BYTES];
     match lines::read_frame(line, &mut frame) {
-        Line::Frame(n) => answer_frame(&frame[..n], image, text),
-        Line::Bad => lines::write_bad_line(text),
+        Some(n) => answer_frame(&frame[..n], image, text),
+        None => lines::write_bad_line(text).unwrap(),
     }
 }
 
@@ -109,18 +108,16 @@ fn answer_next(
     ensures moves { Moves block.now result }
 {
     let taken = lines::take_line(block, line, held);
-    let used = taken.used;
-    let held = taken.held;
     if !taken.whole {
         return Progress {
-            used,
-            held,
+            used: taken.used,
+            held: taken.held,
             written: 0,
         };
     }
-    let written = answer(&line[..held], image, text);
+    let written = answer(&line[..taken.held], image, text);
     Progress {
-        used,
+        used: taken.used,
         held: 0,
         written,
     }
@@ -130,7 +127,7 @@ fn answer_next(
 pub(crate) fn answer_lines(
     block: &[u8],
     line: &mut [u8],
-    held: usize,
+    mut held: usize,
     image: &mut [u16],
     text: &mut [u8],
 ) -> Progress
@@ -141,16 +138,8 @@ pub(crate) fn answer_lines(
     ensures moves { Moves block.now result }
 {
     let mut used = 0;
-    let mut held = held;
     let mut written = 0;
-    while used < block.len() {
-        if text.len() - written < LONGEST_ANSWER {
-            return Progress {
-                used,
-                held,
-                written,
-            };
-        }
+    while used < block.len() && LONGEST_ANSWER <= text.len() - written {
         let done = answer_next(&block[used..], line, held, image, &mut text[written..]);
         used += done.used;
         held = done.held;

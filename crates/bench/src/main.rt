@@ -16,22 +16,16 @@ const BLOCK_ROOM: usize = 65536;
 // One more than the longest line that says a frame, so that a longer one is seen to be longer.
 const LINE_ROOM: usize = lines::LONGEST_LINE + 1;
 
-// What comes after a block: so many characters of the next line are held, or input or output has ended.
-#[derive(Clone, Copy)]
-enum Next {
-    Held(usize),
-    Ended,
-}
-
-// Answers the lines of a block, and writes the answers.
+// Answers the lines of a block, writes the answers, and tells how many characters of the next line are held; None where the output has
+// ended.
 fn answer_block(
     stdout: &mut Stdout,
     block: &[u8],
     line: &mut [u8],
-    held: usize,
+    mut held: usize,
     image: &mut [u16],
     text: &mut [u8],
-) -> Next
+) -> Option<usize>
     requires longest_line_in_bounds { longest_line < length line.old }
     requires held_in_bounds { held ≤ length line.old }
     requires longest_answer_in_bounds { longest_answer ≤ length text.old }
@@ -39,20 +33,17 @@ fn answer_block(
     ensures block_passed { BlockPassed block.now line.old held image.old line.new image.new result }
 {
     let mut from = 0;
-    let mut held = held;
     while from < block.len() {
         let done = answer::answer_lines(&block[from..], line, held, image, text);
-        let written = done.written;
-        if stdout.write_all(&text[..written]).is_err() {
-            return Next::Ended;
-        }
+        stdout.write_all(&text[..done.written]).ok()?;
         from += done.used;
         held = done.held;
     }
-    Next::Held(held)
+    Some(held)
 }
 
-// Reads a block and answers its lines. When the input has ended, a last line is answered; a line that a failure cuts off is not.
+// Reads a block and answers its lines; None where the input or the output has ended. At the end of the input a last line is answered; a
+// line that a failure cuts off is not.
 fn read_block(
     stdin: &mut Stdin,
     stdout: &mut Stdout,
@@ -61,24 +52,22 @@ fn read_block(
     held: usize,
     image: &mut [u16],
     text: &mut [u8],
-) -> Next
+) -> Option<usize>
     requires longest_line_in_bounds { longest_line < length line.old }
     requires held_in_bounds { held ≤ length line.old }
     requires longest_answer_in_bounds { longest_answer ≤ length text.old }
     ensures { HeldWithin (length line.old) result }
 {
-    let Ok(n) = stdin.read(input) else {
-        return Next::Ended;
-    };
+    let n = stdin.read(input).ok()?;
     if n == 0 {
         let written = answer::answer_last(&line[..held], image, text);
         let _ = stdout.write_all(&text[..written]);
-        return Next::Ended;
+        return None;
     }
     answer_block(stdout, &input[..n], line, held, image, text)
 }
 
-// Goes on block by block. A proved loop has to end, so it counts its turns down, from a number that no input uses up.
+// Goes on block by block. A proved loop has to end, so there is a number of blocks, one that no input uses up.
 fn run(
     stdin: &mut Stdin,
     stdout: &mut Stdout,
@@ -91,10 +80,8 @@ fn run(
     requires longest_answer_in_bounds { longest_answer ≤ length text.old }
 {
     let mut held = 0;
-    let mut turns = u64::MAX;
-    while turns > 0 {
-        turns -= 1;
-        let Next::Held(n) = read_block(stdin, stdout, input, line, held, image, text) else {
+    for _ in 0..u64::MAX {
+        let Some(n) = read_block(stdin, stdout, input, line, held, image, text) else {
             return;
         };
         held = n;

@@ -6,7 +6,7 @@ use Prim.Native.Nat.{ℕ, suc, ◌+◌, ◌-◌, ◌≤◌, ◌<◌}
 use native.Mathlib.Numerals.{add-one}
 use native.Mathlib.Omega.{arith}
 use lib.ListN.{length, take, drop, get_or, set, length-append, length-drop, drop_of_length-le}
-use lib.Seq.{take-length, take_all, take-append_seam, drop-append_seam, drop-drop, drop-cons, append_snoc, set-append_seam}
+use lib.Seq.{take_all, take-append_seam, drop-append_seam, drop-drop, drop-cons, append_snoc, set-append_seam}
 use Rattle.slave.specs.Answer.{over}
 
 pub over_longer : (xs before : List ℕ) → length xs ≤ length before → length (over xs before) ≡ length before
@@ -26,11 +26,6 @@ over_behind xs ys before part n e h filled =
     rw (e, take-append_seam xs (drop m before), none, behind, append-nil, drop-drop, length-append) (
     sym (append_assoc xs ys (drop (m + length ys) before))
     )
-
--- what a copy of a whole piece leaves
-pub copied : (piece before after : List ℕ) → after ≡ take (length piece) piece ++ drop (length piece) before
-    → after ≡ over piece before
-copied piece before after e = rw (take-length piece) at e
 
 -- one character more
 pub over_one_more : (xs before : List ℕ) (c : ℕ) → length xs < length before

@@ -4,7 +4,7 @@
 use mathlib.Core.Path.{◌≡◌}
 use mathlib.Core.List.{List}
 use Prim.Native.Nat.{ℕ}
-use Rattle.lines.specs.declared.Line.{Line}
+use Rattle.std.proofs.Common.{Option}
 use Rattle.lines.specs.declared.Taken.{Taken}
 use Rattle.lines.specs.Hex.{spaced}
 use Rattle.lines.specs.Outcomes.{bad_line, outcome_text, as_line}
@@ -22,24 +22,24 @@ take_line_determined : (κs : _) (a : _) (x y : Taken) (s t : _) → take-line.P
 take_line_determined κs a x y s t p q =
     laws.TakeLineDetermined a.0.now a.1.0.now a.1.1.0 (x, s.1.0.now) (y, t.1.0.now) p q
 
-read_frame_determined : (κs : _) (a : _) (x y : Line) (s t : _) → read-frame.Post κs a x s → read-frame.Post κs a y t
-    → ◌≡◌ {A = Line × List ℕ} (x, s.1.0.now) (y, t.1.0.now)
+read_frame_determined : (κs : _) (a : _) (x y : Option ℕ) (s t : _) → read-frame.Post κs a x s → read-frame.Post κs a y t
+    → ◌≡◌ {A = Option ℕ × List ℕ} (x, s.1.0.now) (y, t.1.0.now)
 read_frame_determined κs a x y s t p q =
     laws.ReadFrameDetermined a.0.now a.1.0.now (x, s.1.0.now) (y, t.1.0.now) p q
 
-write_bytes_determined : (κs : _) (a : _) (x y : ℕ) (s t : _) → write_bytes.Post κs a x s → write_bytes.Post κs a y t
-    → ◌≡◌ {A = ℕ × List ℕ} (x, s.1.0.now) (y, t.1.0.now)
+write_bytes_determined : (κs : _) (a : _) (x y : Option ℕ) (s t : _) → write_bytes.Post κs a x s → write_bytes.Post κs a y t
+    → ◌≡◌ {A = Option ℕ × List ℕ} (x, s.1.0.now) (y, t.1.0.now)
 write_bytes_determined κs a x y s t p q =
     laws.WrittenDetermined (spaced a.0.now) a.1.0.now (x, s.1.0.now) (y, t.1.0.now) p q
 
-write_outcome_determined : (κs : _) (a : _) (x y : ℕ) (s t : _) → write-outcome.Post κs a x s → write-outcome.Post κs a y t
-    → ◌≡◌ {A = ℕ × List ℕ} (x, s.1.1.0.now) (y, t.1.1.0.now)
+write_outcome_determined : (κs : _) (a : _) (x y : Option ℕ) (s t : _) → write-outcome.Post κs a x s → write-outcome.Post κs a y t
+    → ◌≡◌ {A = Option ℕ × List ℕ} (x, s.1.1.0.now) (y, t.1.1.0.now)
 write_outcome_determined κs a x y s t p q =
     laws.WrittenDetermined (as_line (outcome_text a.0 a.1.0.now)) a.1.1.0.now
     (x, s.1.1.0.now) (y, t.1.1.0.now) p q
 
-write_bad_line_determined : (κs : _) (a : _) (x y : ℕ) (s t : _) → write-bad-line.Post κs a x s → write-bad-line.Post κs a y t
-    → ◌≡◌ {A = ℕ × List ℕ} (x, s.0.now) (y, t.0.now)
+write_bad_line_determined : (κs : _) (a : _) (x y : Option ℕ) (s t : _) → write-bad-line.Post κs a x s → write-bad-line.Post κs a y t
+    → ◌≡◌ {A = Option ℕ × List ℕ} (x, s.0.now) (y, t.0.now)
 write_bad_line_determined κs a x y s t p q =
     laws.WrittenDetermined (as_line bad_line) a.0.now (x, s.0.now) (y, t.0.now) p q
 

@@ -1,13 +1,11 @@
--- `digit` and `upper`, range by range: digits are apart, upper case leaves them, and what a character is the digit of.
+-- `digit` and `upper`, range by range: digits are apart, and upper case leaves them.
 -- Assumes nothing.
 use mathlib.Core.Path.{◌≡◌, refl, sym, ◌∙◌}
-use mathlib.Core.Logic.{inl, inr}
 use Prim.Native.Nat.{ℕ, ◌+◌, ◌-◌, ◌≤◌, ◌<◌}
 use native.Mathlib.Decide.{dec_le}
 use native.Mathlib.Omega.{arith}
 use borrow.Author.Tests.{lt-ltb, le-ltb}
 use Rattle.lines.specs.Hex.{blank, digit, upper}
-use Rattle.lines.specs.Places.{DigitValue}
 
 -- ---- digits
 
@@ -62,18 +60,3 @@ upper_digit d h =
     digit_cases d (upper (digit d) ≡ digit d)
     (λ k s. upper_before (digit d) (omega arith))
     (λ k s. upper_before (digit d) (omega arith))
-
--- ---- what a character is the digit of
-
-pub low_digit : (c d : ℕ) → d < 10 → upper c ≡ 48 + d → DigitValue c d
-unfolding DigitValue
-low_digit c d h s = inl (omega arith, s ∙ sym (digit_low d h))
-
-pub high_digit : (c d : ℕ) → 10 ≤ d → d < 16 → upper c ≡ 55 + d → DigitValue c d
-unfolding DigitValue
-high_digit c d h k s = inl (k, s ∙ sym (digit_high d h))
-
-pub no_digit : (c : ℕ) → ((e : ℕ) → e < 10 → upper c ≡ 48 + e → ⊥) → ((e : ℕ) → 10 ≤ e → e < 16 → upper c ≡ 55 + e → ⊥)
-    → DigitValue c 16
-unfolding DigitValue
-no_digit c low high = inr (refl, λ e h s. digit_cases e ⊥ (λ k t. low e k (s ∙ t)) (λ k t. high e k h (s ∙ t)))

@@ -3,11 +3,11 @@
 use mathlib.Core.Path.{◌≡◌, refl, ap}
 use mathlib.Core.Bool.{Bool, true, false, cond}
 use mathlib.Core.List.{List, [], ◌∷◌, ◌++◌}
-use Prim.Native.Nat.{ℕ, suc, ◌+◌, ◌≤◌, ◌<◌}
+use Prim.Native.Nat.{ℕ, zero, suc, ◌+◌, ◌≤◌, ◌<◌}
 use native.Mathlib.Omega.{arith}
 use lib.Dec.{eqb}
-use lib.ListN.{length, take, drop}
-use borrow.Author.Tests.{eqb-true}
+use lib.ListN.{length, take, drop, get_or}
+use borrow.Author.Tests.{eqb-true, eq-eqb, ne_eqb}
 use Rattle.lines.specs.Lines.{line_feed, up_to_feed}
 
 pub feed_within : (text : List ℕ) → length (up_to_feed text) ≤ length text
@@ -66,3 +66,21 @@ feed_used (c ∷ rest) h = either (eqb c line_feed) refl h (feed_used rest)
     either false e h more =
         let one : suc (length (up_to_feed rest)) + 1 ≡ suc (length (up_to_feed rest) + 1) = omega arith in
         rw one (ap (λ (t : List ℕ). c ∷ t) (more (omega (arith, h))))
+
+-- ---- a first line feed, or none
+
+pub feed_first : (text : List ℕ) (n : ℕ) → n < length text → get_or text n 0 ≡ line_feed
+    → ((k : ℕ) → k < n → get_or text k 0 ≡ line_feed → ⊥) → length (up_to_feed text) ≡ n
+unfolding up_to_feed
+feed_first [] n h at before = absurd (omega arith)
+feed_first (c ∷ rest) zero h at before = rw (eq-eqb c line_feed at) refl
+feed_first (c ∷ rest) (suc n) h at before =
+    rw (ne_eqb c line_feed (before 0 (omega arith)))
+    (ap suc (feed_first rest n (omega arith) at (λ k below. before (suc k) (omega arith))))
+
+pub feed_none : (text : List ℕ) → ((k : ℕ) → k < length text → get_or text k 0 ≡ line_feed → ⊥) → up_to_feed text ≡ text
+unfolding up_to_feed
+feed_none [] none = refl
+feed_none (c ∷ rest) none =
+    rw (ne_eqb c line_feed (none 0 (omega arith)))
+    (ap (λ (t : List ℕ). c ∷ t) (feed_none rest (λ k below. none (suc k) (omega arith))))

@@ -1,11 +1,12 @@
 -- The held start of a line with a part behind it, as far as the buffer goes: a copy of so much of the part.
 -- Assumes nothing.
 use mathlib.Core.Path.{◌≡◌, refl, sym, ap, ◌∙◌}
-use mathlib.Core.List.{List, [], ◌∷◌, ◌++◌}
+use mathlib.Core.List.{List, [], ◌∷◌, ◌++◌, append_assoc}
 use Prim.Native.Nat.{ℕ, zero, suc, ◌+◌, ◌-◌, ◌≤◌, min}
 use native.Mathlib.Omega.{arith}
 use lib.ListN.{length, take, drop, length-take, take-append-drop}
-use lib.Seq.{paste, length_paste_head, take-append_seam, take-append-add}
+use borrow.Rule.Slice.PartMut.{put_mid}
+use lib.Seq.{drop-drop, length_paste_head, take-append_seam, take-append-add}
 use Rattle.slave.specs.Answer.{over}
 
 -- taking more than there is takes all
@@ -29,10 +30,11 @@ held_part line part held from n f m =
     ∙ ap (λ (t : List ℕ). take held line ++ t) rest
     ∙ ap (λ (t : List ℕ). t ++ take n part) (sym start)
 
-pub held_over : (line part : List ℕ) (from n : ℕ) → from ≤ length line → n ≤ length part
-    → paste line from part n ≡ over (take from line ++ take n part) line
-held_over line part from n h k =
-    ap (λ (j : ℕ). (take from line ++ take n part) ++ drop j line) (sym (length_paste_head line from part n h k))
+pub held_over : (line part new : List ℕ) (from n k : ℕ) → from ≤ length line → n ≤ length part → k ≡ n → new ≡ take n part
+    → put_mid from k line new ≡ over (take from line ++ take n part) line
+held_over line part new from n k h l e f =
+    let size : length (take from line ++ take n part) ≡ from + n = length_paste_head line from part n h l in
+    rw (f, e, size, drop-drop n from line) (sym (append_assoc (take from line) (take n part) (drop (from + n) line)))
 
 -- what was cut off before is cut off again
 pub take_again : (n : ℕ) (xs ys : List ℕ) → take n (take n xs ++ ys) ≡ take n (xs ++ ys)

@@ -1,21 +1,19 @@
 -- The laws of specs/Laws.antt, each under its name.
 -- Assumes nothing.
-use mathlib.Core.Path.{◌≡◌, refl, sym, ap, ◌∙◌}
-use mathlib.Core.Bool.{Bool, true, false, cond}
+use mathlib.Core.Path.{◌≡◌, sym, ap, ◌∙◌}
+use mathlib.Core.Bool.{Bool, cond}
 use mathlib.Core.List.{List, ◌++◌, append_assoc}
 use Prim.Native.Nat.{ℕ, ◌+◌, ◌≤◌}
-use lib.Dec.{leb}
 use native.Mathlib.Omega.{arith}
 use lib.ListN.{length, take, drop, length-take}
 use lib.Seq.{take-append_seam}
 use Rattle.slave.specs.Answer.{over}
-use borrow.Author.Tests.{leb-true, leb-false}
 use Rattle.promise.proofs.Promise.{decides_determined}
 use Rattle.lines.specs.declared.Taken.{Taken}
 use Rattle.lines.specs.Lines.{up_to_feed, heldThen}
-use Rattle.lines.specs.declared.Line.TheVariants.{Frame, Bad}
 use Rattle.lines.specs.Hex.{ReadFrame}
 use Rattle.lines.specs.Laws as laws
+use Rattle.std.proofs.Common.{Some, None}
 use Rattle.lines.proofs.Says.{line_apart, over_long, line_says}
 use Rattle.lines.proofs.Behind.{over_longer}
 use Rattle.lines.proofs.Held.{take_again}
@@ -32,10 +30,10 @@ LongLine = over_long
 
 pub ReadFrameDetermined : laws.ReadFrameDetermined
 unfolding ReadFrame
-ReadFrameDetermined line before (Frame n, x) (Frame m, y) p q = cc (OneFrame line p.0 q.0 p.1 q.1)
-ReadFrameDetermined line before (Frame n, x) (Bad, y) p q = absurd (q.0 p.0 p.1)
-ReadFrameDetermined line before (Bad, x) (Frame m, y) p q = absurd (p.0 q.0 q.1)
-ReadFrameDetermined line before (Bad, x) (Bad, y) p q = cc (p.1, q.1)
+ReadFrameDetermined line before (Some n, x) (Some m, y) p q = cc (OneFrame line p.0 q.0 p.1 q.1)
+ReadFrameDetermined line before (Some n, x) (None, y) p q = absurd (q.0 p.0 p.1)
+ReadFrameDetermined line before (None, x) (Some m, y) p q = absurd (p.0 q.0 q.1)
+ReadFrameDetermined line before (None, x) (None, y) p q = cc (p.1, q.1)
 
 taken_alike : (a b : Taken) → a.used ≡ b.used → a.held ≡ b.held → a.whole ≡ b.whole → a ≡ b
 taken_alike a b used held whole = λ i. record { used = used i; held = held i; whole = whole i }
@@ -50,16 +48,10 @@ TakeLineDetermined block line held a b p q =
     λ i. (taken i, stands i)
 
 pub WrittenDetermined : laws.WrittenDetermined
-WrittenDetermined text before a b p q = either (leb (length text) (length before)) refl
-  where
-    both : {x : ℕ} {s : List ℕ} → (a.0 ≡ x) × (a.1 ≡ s) → (b.0 ≡ x) × (b.1 ≡ s) → a ≡ b
-    both f g = λ i. ((f.0 ∙ sym g.0) i, (f.1 ∙ sym g.1) i)
-
-    either : (t : Bool) → leb (length text) (length before) ≡ t → a ≡ b
-    either true e = both (p.with_room (leb-true _ _ e)) (q.with_room (leb-true _ _ e))
-    either false e =
-        let short : length text ≤ length before → ⊥ = λ room. omega (arith, room, leb-false (length text) (length before) e) in
-        both (p.without short) (q.without short)
+WrittenDetermined text before (Some n, x) (Some m, y) p q = cc (p.1, q.1)
+WrittenDetermined text before (Some n, x) (None, y) p q = absurd (q.0 p.0)
+WrittenDetermined text before (None, x) (Some m, y) p q = absurd (p.0 q.0)
+WrittenDetermined text before (None, x) (None, y) p q = cc (p.1, q.1)
 
 pub InTwoBlocks : laws.InTwoBlocks
 InTwoBlocks one two line held whole =

@@ -4,7 +4,6 @@ mod Pieces
 mod Places
 mod Stands
 mod Says
-mod Written
 pub mod Held
 pub mod Behind
 pub mod Feed

@@ -8,10 +8,11 @@ use native.Mathlib.Omega.{arith}
 use lib.ListN.{length, take, drop, get_or, length-drop, length-map, get_or-eq_default}
 use Rattle.check_word.specs.Frame.{Bytes}
 use Rattle.lines.specs.Hex.{blank, digit, upper, spaced, line_of, most_bytes, Says}
-use Rattle.lines.specs.Places.{piece, AllBytes, Filled}
+use Rattle.lines.specs.Places.{piece, StandsAt}
 use Rattle.lines.proofs.Digits.{digits_apart, upper_digit, upper_blank}
 use Rattle.lines.proofs.Spaced.{length_spaced}
 use Rattle.lines.proofs.Pieces.{taken, assembled}
+use Rattle.lines.proofs.Stands.{Filled}
 
 -- ---- different bytes in hex are different
 
@@ -69,11 +70,12 @@ says_spaced line [] some says = absurd (omega (arith, length_says line [] says))
 says_spaced line (byte ∷ bytes) some says = ap₂ (λ (c : ℕ) (l : List ℕ). c ∷ l) upper_blank says.in_hex
 
 -- the bytes that a line says stand at its places ..
-pub says_stand : (line bytes : List ℕ) → 0 < length line → Says line bytes → AllBytes line (length bytes)
-unfolding AllBytes piece
+pub says_stand : (line bytes : List ℕ) → 0 < length line → Says line bytes → (k : ℕ) → k < length bytes
+    → StandsAt line k (get_or bytes k 0)
+unfolding piece
 says_stand line bytes some says k h =
     let shown = ap (λ (text : List ℕ). take 3 (drop (3 * k) text)) (says_spaced line bytes some says) in
-    (get_or bytes k 0, (says.bytes_are k, shown ∙ taken bytes k h))
+    (says.bytes_are k, shown ∙ taken bytes k h)
 
 -- .. and the line says the bytes that stand there
 pub filled_says : (line : List ℕ) (n : ℕ) (before after : List ℕ) (f : Filled line n before after) → length line + 1 ≡ 3 * n

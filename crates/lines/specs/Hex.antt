@@ -1,10 +1,8 @@
 -- Bytes in two-digit hex, and the frame that a line says.
 -- Assumes nothing.
-use Rattle.std.specs.Prelude.{◌≡◌, cond, List, [], ◌∷◌, map, ℕ, ◌+◌, ◌-◌, ◌/◌, ◌%◌, ◌≤◌, ltb, length, drop}
+use Rattle.std.specs.Prelude.{◌≡◌, cond, Option, Some, None, List, [], ◌∷◌, map, ℕ, ◌+◌, ◌-◌, ◌/◌, ◌%◌, ◌≤◌, ltb, length, drop}
 use Rattle.check_word.specs.Frame.{Bytes}
 use Rattle.slave.specs.Answer.{over}
-use Rattle.lines.specs.declared.Line.{Line}
-use Rattle.lines.specs.declared.Line.TheVariants.{Frame, Bad}
 
 -- ---- characters, by their ASCII numbers
 
@@ -46,6 +44,6 @@ pub record Says (line bytes : List ℕ) : Type 0 where
 
 -- What `read_frame` promises. A line's frame is put over the start of the buffer, and its length is told. Other lines are bad,
 -- and then nothing changes.
-unfoldable pub ReadFrame : List ℕ → List ℕ → Line → List ℕ → Type 0
-ReadFrame line before (Frame n) after = (bytes : List ℕ) × Says line bytes × (n ≡ length bytes) × (after ≡ over bytes before)
-ReadFrame line before Bad after = ((bytes : List ℕ) → Says line bytes → ⊥) × (after ≡ before)
+unfoldable pub ReadFrame : List ℕ → List ℕ → Option ℕ → List ℕ → Type 0
+ReadFrame line before (Some n) after = (bytes : List ℕ) × Says line bytes × (n ≡ length bytes) × (after ≡ over bytes before)
+ReadFrame line before None after = ((bytes : List ℕ) → Says line bytes → ⊥) × (after ≡ before)

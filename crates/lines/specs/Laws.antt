@@ -1,9 +1,8 @@
 -- The laws of lines, each proved under its name in proofs/Laws.antt.
 -- Assumes nothing.
-use Rattle.std.specs.Prelude.{◌≡◌, List, ◌++◌, ℕ, ◌<◌, ◌≤◌, length}
+use Rattle.std.specs.Prelude.{◌≡◌, Option, List, ◌++◌, ℕ, ◌<◌, ◌≤◌, length}
 use Rattle.promise.specs.Promise.{Determined}
 use Rattle.check_word.specs.Frame.{Bytes}
-use Rattle.lines.specs.declared.Line.{Line}
 use Rattle.lines.specs.declared.Taken.{Taken}
 use Rattle.lines.specs.Hex.{line_of, most_bytes, longest_line, Says, ReadFrame}
 use Rattle.slave.specs.Answer.{over}
@@ -30,11 +29,11 @@ InTwoBlocks = (one two buffer : List ℕ) (held : ℕ) → up_to_feed one ≡ on
 
 -- the promise of each public function determines its answer, and the buffer that was lent
 abbrev pub ReadFrameDetermined : Type 0
-ReadFrameDetermined = (line before : List ℕ) → Determined (λ (a : Line × List ℕ). ReadFrame line before a.0 a.1)
+ReadFrameDetermined = (line before : List ℕ) → Determined (λ (a : Option ℕ × List ℕ). ReadFrame line before a.0 a.1)
 
 abbrev pub TakeLineDetermined : Type 0
 TakeLineDetermined =
     (block buffer : List ℕ) (held : ℕ) → Determined (λ (a : Taken × List ℕ). TakeLine block buffer held a.0 a.1)
 
 abbrev pub WrittenDetermined : Type 0
-WrittenDetermined = (text before : List ℕ) → Determined (λ (a : ℕ × List ℕ). Written text before a.0 a.1)
+WrittenDetermined = (text before : List ℕ) → Determined (λ (a : Option ℕ × List ℕ). Written text before a.0 a.1)

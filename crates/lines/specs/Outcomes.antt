@@ -1,6 +1,6 @@
 -- What is written for an outcome: a line of text.
 -- Assumes nothing.
-use Rattle.std.specs.Prelude.{◌≡◌, cond, List, [], ◌∷◌, ◌++◌, ℕ, ◌+◌, ◌/◌, ◌%◌, ◌≤◌, ltb, length, take}
+use Rattle.std.specs.Prelude.{◌≡◌, cond, Option, Some, None, List, [], ◌∷◌, ◌++◌, ℕ, ◌+◌, ◌/◌, ◌%◌, ◌≤◌, ltb, length, take}
 use Rattle.slave.specs.declared.Outcome.{Outcome}
 use Rattle.slave.specs.declared.Outcome.TheVariants.{Refused, Silent, Exception, Reply}
 use Rattle.slave.specs.Numbers.{refusal_number, silence_number}
@@ -45,7 +45,7 @@ abbrev pub as_line : List ℕ → List ℕ
 as_line text = text ++ (line_feed ∷ [])
 
 -- What `write_bytes`, `write_outcome` and `write_bad_line` promise. Where there is room for a text, it stands in the start of the buffer, its
--- length is told, and the rest keeps its content; where there is none, nothing changes, and 0 is told.
-pub record Written (text before : List ℕ) (n : ℕ) (after : List ℕ) : Type 0 where
-  pub with_room : length text ≤ length before → (n ≡ length text) × (after ≡ over text before)
-  pub without : (length text ≤ length before → ⊥) → (n ≡ 0) × (after ≡ before)
+-- length is told, and the rest keeps its content. Where there is none, nothing changes.
+abbrev pub Written : List ℕ → List ℕ → Option ℕ → List ℕ → Type 0
+Written text before (Some n) after = (length text ≤ length before) × (n ≡ length text) × (after ≡ over text before)
+Written text before None after = (length text ≤ length before → ⊥) × (after ≡ before)

@@ -9,6 +9,7 @@ ghost use Rattle.lines.specs.Hex.{spaced, ReadFrame};
 ghost use Rattle.lines.specs.Lines.{TakeLine};
 ghost use Rattle.lines.specs.Outcomes.{bad_line, outcome_text, as_line, Written};
 
+use place::LINE_FEED;
 use slave::Outcome;
 
 // The most bytes of a line's frame, and the most characters of such a line.
@@ -16,17 +17,9 @@ pub const MOST_BYTES: usize = 300;
 
 pub const LONGEST_LINE: usize = 899;
 
-// What a line says.
-#[derive(Clone, Copy)]
-pub enum Line {
-    // A frame of so many bytes.
-    Frame(usize),
-    Bad,
-}
-
 // What was taken out of a block: so many of its bytes are used up; so many characters of the line are held, and it is whole or
 // not.
-#[derive(Clone, Copy)]
+#[derive(Clone, Copy, Debug, PartialEq, Eq)]
 pub struct Taken {
     pub used: usize,
     pub held: usize,
@@ -38,62 +31,60 @@ pub struct Taken {
 pub fn take_line(block: &[u8], line: &mut [u8], held: usize) -> Taken
     ensures { TakeLine block.now line.old held result line.new }
 {
-    let end = place::feed_at(block);
-    let held = place::hold(line, held, &block[..end]);
-    if end < block.len() {
-        return Taken {
+    match block.iter().position(|c| *c == LINE_FEED) {
+        Some(end) => Taken {
             used: end + 1,
-            held,
+            held: place::hold(line, held, &block[..end]),
             whole: true,
-        };
-    }
-    Taken {
-        used: end,
-        held,
-        whole: false,
+        },
+        None => Taken {
+            used: block.len(),
+            held: place::hold(line, held, block),
+            whole: false,
+        },
     }
 }
 
-// Reads the frame that a line says into the start of the buffer. A line that says none is bad, and then nothing has changed.
-pub fn read_frame(line: &[u8], frame: &mut [u8; MOST_BYTES]) -> Line
+// Reads the frame that a line says into the start of the buffer, and answers its length. A line that says none is bad: None, and
+// then nothing has changed.
+pub fn read_frame(line: &[u8], frame: &mut [u8; MOST_BYTES]) -> Option<usize>
     ensures { ReadFrame line.now frame.old result frame.new }
 {
     if line.len() == 0 {
-        return Line::Frame(0);
+        return Some(0);
     }
     if LONGEST_LINE < line.len() {
-        return Line::Bad;
+        return None;
     }
     if line.len() % 3 != 2 {
-        return Line::Bad;
+        return None;
     }
     let n = (line.len() + 1) / 3;
-    if !hex::all_bytes(line, n) {
-        return Line::Bad;
+    let mut read = *frame;
+    for k in 0..n {
+        read[k] = hex::byte_at(line, k)?;
     }
-    hex::read_bytes(line, n, frame);
-    Line::Frame(n)
+    *frame = read;
+    Some(n)
 }
 
-// Writes each byte as a blank and two digits into the start of the text, and answers how many characters these are: 0 where there
-// is no room for them, and then nothing has changed.
-pub fn write_bytes(bytes: &[u8], text: &mut [u8]) -> usize
+// Writes each byte as a blank and two digits into the start of the text, and answers how many characters these are: None where
+// there is no room for them, and then nothing has changed.
+pub fn write_bytes(bytes: &[u8], text: &mut [u8]) -> Option<usize>
     ensures { Written (spaced bytes.now) text.old result text.new }
 {
     if text.len() / 3 < bytes.len() {
-        return 0;
+        return None;
     }
-    let mut k = 0;
-    while k < bytes.len() {
-        hex::write_byte(bytes[k], text, 3 * k);
-        k += 1;
+    for (k, &byte) in bytes.iter().enumerate() {
+        hex::write_byte(byte, text, 3 * k);
     }
-    3 * k
+    Some(3 * bytes.len())
 }
 
 // Writes an outcome as a line into the start of the text, and answers as write_bytes does. `reply` is the call's reply buffer; where it
 // is shorter than the outcome tells, what is there is written.
-pub fn write_outcome(outcome: Outcome, reply: &[u8], text: &mut [u8]) -> usize
+pub fn write_outcome(outcome: Outcome, reply: &[u8], text: &mut [u8]) -> Option<usize>
     ensures { Written (as_line (outcome_text outcome reply.now)) text.old result text.new }
 {
     match outcome {
@@ -105,7 +96,7 @@ pub fn write_outcome(outcome: Outcome, reply: &[u8], text: &mut [u8]) -> usize
 }
 
 // Writes what stands for a bad line into the start of the text, and answers as write_bytes does.
-pub fn write_bad_line(text: &mut [u8]) -> usize
+pub fn write_bad_line(text: &mut [u8]) -> Option<usize>
     ensures { Written (as_line bad_line) text.old result text.new }
 {
     place::write_two(b"bad line", b"\n", text)

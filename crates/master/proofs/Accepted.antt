@@ -1,35 +1,33 @@
 -- A reply that is accepted: its bytes, field by field, and the values that are read from it.
 -- Assumes nothing.
 use mathlib.Core.Path.{◌≡◌, refl, sym, ap, ◌∙◌}
-use mathlib.Core.Logic.{inr, ⊎_elim}
+use mathlib.Core.Logic.{inr}
 use mathlib.Core.List.{List, []}
 use Prim.Native.Nat.{ℕ}
 use native.Mathlib.Omega.{arith}
-use lib.ListN.{length, take, drop, length-drop}
+use lib.ListN.{take, drop, length-drop}
 use lib.Seq.{length-take-le, take_at}
+use Rattle.std.specs.Prelude.{Ok}
 use Rattle.check_word.specs.Frame.{Bytes, Right}
 use Rattle.frames.specs.Exceptions.{code_number, top_bit_set}
 use Rattle.master.specs.declared.Request.{Request}
 use Rattle.master.specs.declared.Reading.{Reading}
-use Rattle.master.specs.declared.Reading.TheVariants.{Refused, Data, Written, Exception}
+use Rattle.master.specs.declared.Reading.TheVariants.{Data, Written, Exception}
 use Rattle.master.specs.Requests.{function_number}
 use Rattle.master.specs.Reading.{data_in, Fits, Left, ReadReply}
-use Rattle.master.specs.Laws.{values, ReplyWith, Accepted}
+use Rattle.master.specs.Laws.{values, ReplyWith}
 use Rattle.master.proofs.Body.{not_wrong_right, frame_is, echo_is}
 use Rattle.master.proofs.Fits.{read_long, write_long, fits_one}
-use Rattle.master.proofs.Readings.{IsRead, refused_or_read}
 
 -- ---- the values, as they stand in the reply
 
 abbrev values_in : Reading → List ℕ → List ℕ
-values_in (Refused why) reply = []
 values_in (Data n) reply = data_in n reply
 values_in Written reply = []
 values_in (Exception code) reply = []
 
 values_in_lem : (request : Request) (reply before : List ℕ) (reading : Reading) (after : List ℕ) → Fits request reply reading
-    → Left reply before reading after → values reading after ≡ values_in reading reply
-values_in_lem request reply before (Refused why) after fits left = refl
+    → Left reply before (Ok reading) after → values reading after ≡ values_in reading reply
 values_in_lem request reply before (Data n) after fits left =
     let long = read_long request reply n fits in
     let size = length-take-le n (drop 3 reply) (omega (arith, length-drop 3 reply, long)) in
@@ -41,7 +39,6 @@ values_in_lem request reply before (Exception code) after fits left = refl
 
 bytes_are : (request : Request) (reply : List ℕ) (reading : Reading) → Bytes reply → Right reply → Fits request reply reading
     → ReplyWith request (values_in reading reply) reply reading
-bytes_are request reply (Refused why) small right fits = fits
 bytes_are request reply (Data n) small right fits =
     let long = read_long request reply n fits in (
       fits.reads,
@@ -62,48 +59,35 @@ bytes_are request reply (Exception code) small right fits =
 
 one_reply : (request : Request) (values x y : List ℕ) (reading : Reading) → ReplyWith request values x reading
     → ReplyWith request values y reading → x ≡ y
-one_reply request values x y (Refused why) p q = absurd p
 one_reply request values x y (Data n) p q = p.4 ∙ sym q.4
 one_reply request values x y Written p q = p.1 ∙ sym q.1
 one_reply request values x y (Exception code) p q = p ∙ sym q
 
 -- ---- where it is accepted
 
-accepted_read : (request : Request) (reply before : List ℕ) (reading : Reading) (after : List ℕ)
-    → ReadReply request reply before reading after → Accepted reading → IsRead request (length before) reply reading
-accepted_read request reply before reading after answer accepts =
-    ⊎_elim (λ refused. absurd (accepts refused.why refused.is)) (λ read. read)
-    (refused_or_read request (length before) reply reading answer.told)
-
-accepted_right : (request : Request) (room : ℕ) (reply : List ℕ) (reading : Reading) → IsRead request room reply reading
-    → Right reply
-accepted_right request room reply reading read = not_wrong_right reply (λ wrong. read.none.1.0 (inr wrong))
-
 pub every_field : (request : Request) (reply before : List ℕ) (reading : Reading) (after : List ℕ) → Bytes reply
-    → ReadReply request reply before reading after → Accepted reading → ReplyWith request (values reading after) reply reading
-every_field request reply before reading after small answer accepts =
-    let read = accepted_read request reply before reading after answer accepts in
-    let right = accepted_right request (length before) reply reading read in
-    let same = values_in_lem request reply before reading after read.fits answer.left in
-    rw same (bytes_are request reply reading small right read.fits)
+    → ReadReply request reply before (Ok reading) after → ReplyWith request (values reading after) reply reading
+every_field request reply before reading after small read =
+    let (none, fits) = read.told in
+    let right = not_wrong_right reply (λ wrong. none.1.0 (inr wrong)) in
+    let same = values_in_lem request reply before reading after fits read.left in
+    rw same (bytes_are request reply reading small right fits)
 
 pub one_value : (p q : Request) (reply before other : List ℕ) (a b : Reading) (after_a after_b : List ℕ)
-    → ReadReply p reply before a after_a → Accepted a → ReadReply q reply other b after_b → Accepted b
+    → ReadReply p reply before (Ok a) after_a → ReadReply q reply other (Ok b) after_b
     → (a ≡ b) × (values a after_a ≡ values b after_b)
-one_value p q reply before other a b after_a after_b answer_a accepts_a answer_b accepts_b =
-    let read_a = accepted_read p reply before a after_a answer_a accepts_a in
-    let read_b = accepted_read q reply other b after_b answer_b accepts_b in
-    let same = fits_one reply p q a b read_a.fits read_b.fits in (
+one_value p q reply before other a b after_a after_b read_a read_b =
+    let same = fits_one reply p q a b read_a.told.1 read_b.told.1 in (
       same,
-      values_in_lem p reply before a after_a read_a.fits answer_a.left
+      values_in_lem p reply before a after_a read_a.told.1 read_a.left
           ∙ ap (λ (reading : Reading). values_in reading reply) same
-          ∙ sym (values_in_lem q reply other b after_b read_b.fits answer_b.left),
+          ∙ sym (values_in_lem q reply other b after_b read_b.told.1 read_b.left),
     )
 
 pub but_for_those : (request : Request) (x y before other : List ℕ) (reading : Reading) (after_x after_y : List ℕ)
-    → Bytes x → Bytes y → ReadReply request x before reading after_x → ReadReply request y other reading after_y → Accepted reading
+    → Bytes x → Bytes y → ReadReply request x before (Ok reading) after_x → ReadReply request y other (Ok reading) after_y
     → values reading after_x ≡ values reading after_y → x ≡ y
-but_for_those request x y before other reading after_x after_y small_x small_y answer_x answer_y accepts same =
-    let fields_x = every_field request x before reading after_x small_x answer_x accepts in
-    let fields_y = every_field request y other reading after_y small_y answer_y accepts in
+but_for_those request x y before other reading after_x after_y small_x small_y read_x read_y same =
+    let fields_x = every_field request x before reading after_x small_x read_x in
+    let fields_y = every_field request y other reading after_y small_y read_y in
     one_reply request (values reading after_x) x y reading fields_x (rw same fields_y)

@@ -6,17 +6,16 @@ use mathlib.Core.List.{List}
 use Prim.Native.Nat.{ℕ, ◌≤◌}
 use native.Mathlib.Omega.{arith}
 use lib.ListN.{length}
+use Rattle.std.specs.Prelude.{Ok}
 use Rattle.check_word.specs.Frame.{Right}
 use Rattle.frames.specs.Limits.{most, BitValue}
 use Rattle.master.specs.declared.Function.TheVariants.{WriteBit05}
 use Rattle.master.specs.declared.Request.{Request}
-use Rattle.master.specs.declared.Built.TheVariants.{Frame}
 use Rattle.master.specs.declared.Reading.{Reading}
-use Rattle.master.specs.declared.Reading.TheVariants.{Refused, Data, Written, Exception}
 use Rattle.master.specs.Requests.{function_number, act, width, quantity, data_size}
-use Rattle.master.specs.Refusals.{least_room, FieldsRefused, NotRefused}
+use Rattle.master.specs.Refusals.{least_room, FieldsRefused}
 use Rattle.master.specs.Building.{RequestFrame, over, Build}
-use Rattle.master.specs.Reading.{Fits, shortest_reply, reading_lines, ToldBy}
+use Rattle.master.specs.Reading.{Fits, shortest_reply, ToldBy}
 
 -- fields that are in order, and a buffer that has room
 pub fields_kept : (request : Request) (room : ℕ)
@@ -35,24 +34,14 @@ no_bit request other is = absurd (other (ap function_number is))
 -- a request is built where its fields are in order, and its data of their size
 pub request_built : (request : Request) (carried before bytes : List ℕ) → (FieldsRefused request (length before) → ⊥)
     → length carried ≡ data_size request → RequestFrame request carried bytes
-    → Build request carried before (Frame (length bytes)) (over bytes before)
+    → Build request carried before (Ok (length bytes)) (over bytes before)
 request_built request carried before bytes kept size frame = (
   (⊎_elim (λ other. other size) kept, tt),
   record { bytes = bytes; are_the_request = frame; told = omega arith; written = refl },
 )
 
--- where no line applies, what fits is told
-pub told_fitting : (request : Request) (room : ℕ) (reply : List ℕ) (reading : Reading) → NotRefused (reading_lines request room reply)
-    → Fits request reply reading → ToldBy request room reply reading
-told_fitting request room reply (Refused why) none fits = absurd fits
-told_fitting request room reply (Data n) none fits = (none, fits)
-told_fitting request room reply Written none fits = (none, fits)
-told_fitting request room reply (Exception code) none fits = (none, fits)
-
--- none does, if the fields are in order and the check word is right
+-- what fits is told, if the fields are in order and the check word is right: no line applies
 pub told_right : (request : Request) (room : ℕ) (reply : List ℕ) (reading : Reading) → (FieldsRefused request room → ⊥)
-    → shortest_reply ≤ length reply → Right reply → Fits request reply reading → ToldBy request room reply reading
+    → shortest_reply ≤ length reply → Right reply → Fits request reply reading → ToldBy request room reply (Ok reading)
 told_right request room reply reading kept long right fits =
-    told_fitting request room reply reading
-    (kept, (⊎_elim (λ short. omega arith) (λ wrong. wrong right), ((λ none. none reading fits), tt)))
-    fits
+    ((kept, (⊎_elim (λ short. omega arith) (λ wrong. wrong right), ((λ none. none reading fits), tt))), fits)

@@ -7,6 +7,7 @@ use mathlib.Core.List.{List, [], ◌∷◌}
 use Prim.Native.Nat.{ℕ, ◌≤◌}
 use native.Mathlib.Omega.{arith}
 use lib.ListN.{length}
+use Rattle.std.specs.Prelude.{Ok, Err}
 use Rattle.check_word.specs.CheckWord.{corrected, step, steps, add_byte, add_bytes, check_word}
 use Rattle.check_word.specs.Frame.{Right}
 use Rattle.check_word.specs.Line.{bits, line_bits, differences, ones_at, odd, Damaged}
@@ -23,7 +24,7 @@ use Rattle.master.specs.declared.Function.TheVariants.{ReadBits02, ReadWords04, 
 use Rattle.master.specs.declared.Request.{Request}
 use Rattle.master.specs.declared.Refusal.TheVariants as Refusal
 use Rattle.master.specs.declared.Reading.{Reading}
-use Rattle.master.specs.declared.Reading.TheVariants.{Refused, Data, Written, Exception}
+use Rattle.master.specs.declared.Reading.TheVariants.{Data, Written, Exception}
 use Rattle.master.specs.Requests.{act, width, quantity, function_number, data_size}
 use Rattle.master.specs.Refusals.{least_room, FieldsRefused}
 use Rattle.master.specs.Building.{RequestFrame, over}
@@ -54,16 +55,16 @@ module _ (request : Request) (kept : FieldsRefused request room → ⊥) where
 
   -- .. and a reply is read if it fits ..
   read : (reply : List ℕ) (reading : Reading) (bytes : List ℕ) → 5 ≤ length reply → Right reply → Fits request reply reading
-      → Left reply examples.room reading (over bytes examples.room) → examples.Reads request reply reading bytes
+      → Left reply examples.room (Ok reading) (over bytes examples.room) → examples.Reads request reply (Ok reading) bytes
   read reply reading bytes long right fits left =
       record { told = told_right request room reply reading kept long right fits; left = left }
 
   -- .. or refused, with 71 or 72
-  wrong : (reply : List ℕ) → (Right reply → ⊥) → examples.Reads request reply (Refused Refusal.CheckWord) []
+  wrong : (reply : List ℕ) → (Right reply → ⊥) → examples.Reads request reply (Err Refusal.CheckWord) []
   wrong reply not = record { told = inr (kept, inl (inr not, refl)); left = refl }
 
   misfit : (reply : List ℕ) → 5 ≤ length reply → Right reply → ((reading : Reading) → Fits request reply reading → ⊥)
-      → examples.Reads request reply (Refused Refusal.Reply) []
+      → examples.Reads request reply (Err Refusal.Reply) []
   misfit reply long right none = record {
     told = inr (kept, inr (⊎_elim (λ short. omega arith) (λ not. not right), inl (none, refl)));
     left = refl;
@@ -72,7 +73,6 @@ module _ (request : Request) (kept : FieldsRefused request room → ⊥) where
 -- ---- replies that fit in nothing that could be read
 
 no_code_5 : (reading : Reading) → Fits examples.word_8 (0x14 ∷ 0x86 ∷ 0x05 ∷ 0x93 ∷ 0xa7 ∷ []) reading → ⊥
-no_code_5 (Refused why) fits = fits
 no_code_5 (Data n) fits = omega (arith, fits.function)
 no_code_5 Written fits = omega (arith, fits.function)
 no_code_5 (Exception Code.Function) fits = omega (arith, fits.number)
@@ -83,7 +83,6 @@ no_code_5 (Exception Code.ReadOnly) fits = omega (arith, fits.number)
 
 no_fourth_bit : (reading : Reading) → Fits examples.three_bits (0x14 ∷ 0x01 ∷ 0x01 ∷ 0x0b ∷ 0x14 ∷ 0x43 ∷ []) reading → ⊥
 unfolding bit bit_among top_bit_set
-no_fourth_bit (Refused why) fits = fits
 no_fourth_bit (Data n) fits =
     let on : ◌≡◌ {A = ℕ} 1 0 = rw fits.size at (fits.spare 3 (omega arith)) in
     omega arith

@@ -16,7 +16,7 @@ use Rattle.frames.specs.Limits.{plain_length, reply_length}
 use Rattle.frames.proofs.Laws as frames-laws
 use Rattle.master.specs.declared.Request.{Request}
 use Rattle.master.specs.declared.Reading.{Reading}
-use Rattle.master.specs.declared.Reading.TheVariants.{Refused, Data, Written, Exception}
+use Rattle.master.specs.declared.Reading.TheVariants.{Data, Written, Exception}
 use Rattle.master.specs.Requests.{function_number, act_of, act, width}
 use Rattle.master.specs.Reading.{Fits, FitsRead, FitsWrite, FitsException}
 use Rattle.master.proofs.Numbers.{functions_apart, number_no_exception}
@@ -52,16 +52,12 @@ module _ (reply : List ℕ) where
   exception_alone p q code is fits = number_no_exception p.function q.function (sym is ∙ fits.function)
 
   pub fits_one : (p q : Request) (a b : Reading) → Fits p reply a → Fits q reply b → a ≡ b
-  fits_one p q (Refused why) b f g = absurd f
-  fits_one p q (Data n) (Refused why) f g = absurd g
   fits_one p q (Data n) (Data m) f g = ap Data (sym f.byte_count ∙ g.byte_count)
   fits_one p q (Data n) Written f g = absurd (read_no_write p q n f g)
   fits_one p q (Data n) (Exception code) f g = absurd (exception_alone p q code f.function g)
-  fits_one p q Written (Refused why) f g = absurd g
   fits_one p q Written (Data n) f g = absurd (read_no_write q p n g f)
   fits_one p q Written Written f g = refl
   fits_one p q Written (Exception code) f g = absurd (exception_alone p q code f.function g)
-  fits_one p q (Exception code) (Refused why) f g = absurd g
   fits_one p q (Exception code) (Data n) f g = absurd (exception_alone q p code g.function f)
   fits_one p q (Exception code) Written f g = absurd (exception_alone q p code g.function f)
   fits_one p q (Exception a) (Exception b) f g = ap Exception (frames-laws.CodesApart a b (sym f.number ∙ g.number))

@@ -6,6 +6,7 @@ use mathlib.Core.List.{List, ◌++◌}
 use Prim.Native.Nat.{ℕ, ◌+◌, ◌≤◌, ◌<◌}
 use native.Mathlib.Omega.{arith}
 use lib.ListN.{length, take, drop}
+use Rattle.std.specs.Prelude.{Result, Ok, Err}
 use lib.Seq.{take_at}
 use Rattle.promise.specs.Promise.{Determined}
 use Rattle.check_word.specs.Frame.{framed, Right}
@@ -18,8 +19,7 @@ use Rattle.frames.specs.declared.Width.{Width}
 use Rattle.frames.specs.declared.Width.TheVariants.{Bit, Word}
 use Rattle.frames.specs.Limits.{most}
 use Rattle.master.specs.declared.Request.{Request}
-use Rattle.master.specs.declared.Built.{Built}
-use Rattle.master.specs.declared.Built.TheVariants.{Refused, Frame}
+use Rattle.master.specs.declared.Refusal.{Refusal}
 use Rattle.master.specs.Requests.{act, width, quantity_for, quantity, request_head}
 use Rattle.master.specs.Refusals.{refusal_number, Line}
 use Rattle.master.specs.Building.{building_lines, PackedAgain, Following, RequestFrame, Build}
@@ -82,11 +82,11 @@ module _ (request : Request) (carried before : List ℕ) where
   abbrev lines : List Line
   lines = building_lines request carried (length before)
 
-  pub build_determined : Determined (λ (a : Built × List ℕ). Build request carried before a.0 a.1)
-  build_determined (Refused a, x) (Refused b, y) (by, same) (also-by, also) =
+  pub build_determined : Determined (λ (a : Result ℕ Refusal × List ℕ). Build request carried before a.0 a.1)
+  build_determined (Err a, x) (Err b, y) (by, same) (also-by, also) =
       cc (refusals_apart a b (refused_determined lines (refusal_number a) (refusal_number b) by also-by), same, also)
-  build_determined (Refused a, x) (Frame m, y) (by, same) (none, put) = absurd (refused_or_not lines (refusal_number a) by none)
-  build_determined (Frame n, x) (Refused b, y) (none, put) (by, same) = absurd (refused_or_not lines (refusal_number b) by none)
-  build_determined (Frame n, x) (Frame m, y) (none, p) (also-none, q) =
+  build_determined (Err a, x) (Ok m, y) (by, same) (none, put) = absurd (refused_or_not lines (refusal_number a) by none)
+  build_determined (Ok n, x) (Err b, y) (none, put) (by, same) = absurd (refused_or_not lines (refusal_number b) by none)
+  build_determined (Ok n, x) (Ok m, y) (none, p) (also-none, q) =
       let same = frame_determined request carried p.bytes q.bytes p.are_the_request q.are_the_request in
       cc (same, p.told, q.told, p.written, q.written)

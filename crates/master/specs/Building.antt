@@ -1,6 +1,6 @@
 -- Building a request.
 -- Assumes nothing.
-use Rattle.std.specs.Prelude.{◌≡◌, ◌⊎◌, ◌≢◌, List, [], ◌∷◌, ◌++◌, ℕ, length, drop}
+use Rattle.std.specs.Prelude.{◌≡◌, ◌⊎◌, ◌≢◌, List, [], ◌∷◌, ◌++◌, Result, Ok, Err, ℕ, length, drop}
 use Rattle.check_word.specs.Frame.{framed}
 use Rattle.registers.specs.Packing.{packed_bit, packed_word, BitsPacked, WordsPacked}
 use Rattle.frames.specs.declared.Act.{Act}
@@ -9,8 +9,7 @@ use Rattle.frames.specs.declared.Width.{Width}
 use Rattle.frames.specs.declared.Width.TheVariants.{Bit, Word}
 use Rattle.frames.specs.Limits.{bytes_for}
 use Rattle.master.specs.declared.Request.{Request}
-use Rattle.master.specs.declared.Built.{Built}
-use Rattle.master.specs.declared.Built.TheVariants.{Refused, Frame}
+use Rattle.master.specs.declared.Refusal.{Refusal}
 use Rattle.master.specs.Requests.{act, width, data_size, request_head}
 use Rattle.master.specs.Refusals.{refusal_number, Line, RefusedBy, NotRefused, FieldsRefused}
 
@@ -49,8 +48,8 @@ pub record RequestPut (request : Request) (carried before : List ℕ) (n : ℕ) 
   pub written : after ≡ over bytes before
 
 -- what `build` promises; `before` is the lent buffer, and `after` what the call leaves in it
-abbrev pub Build : Request → List ℕ → List ℕ → Built → List ℕ → Type 0
-Build request carried before (Refused why) after =
+abbrev pub Build : Request → List ℕ → List ℕ → Result ℕ Refusal → List ℕ → Type 0
+Build request carried before (Err why) after =
     RefusedBy (building_lines request carried (length before)) (refusal_number why) × (after ≡ before)
-Build request carried before (Frame n) after =
+Build request carried before (Ok n) after =
     NotRefused (building_lines request carried (length before)) × RequestPut request carried before n after

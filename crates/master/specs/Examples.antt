@@ -1,16 +1,15 @@
 -- Frames built and read, most of them the papers', in one table: proofs/Examples.antt proves it. The lent buffer has 256 bytes, each
 -- AA hex.
 -- Assumes nothing.
-use Rattle.std.specs.Prelude.{List, [], ◌∷◌, ℕ, length, replicate}
+use Rattle.std.specs.Prelude.{List, [], ◌∷◌, Result, Ok, Err, ℕ, length, replicate}
 use Rattle.check_word.specs.Line.{Damaged}
 use Rattle.frames.specs.declared.Code.TheVariants.{ReadOnly}
 use Rattle.master.specs.declared.Function.{Function}
 use Rattle.master.specs.declared.Function.TheVariants.{ReadBits01, ReadBits02, ReadWords03, ReadWords04, WriteBit05, WriteWord06, WriteBits0F, WriteWords10}
 use Rattle.master.specs.declared.Request.{Request}
-use Rattle.master.specs.declared.Refusal.TheVariants as Refusal
-use Rattle.master.specs.declared.Built.TheVariants.{Frame}
+use Rattle.master.specs.declared.Refusal.{Refusal}
 use Rattle.master.specs.declared.Reading.{Reading}
-use Rattle.master.specs.declared.Reading.TheVariants.{Refused, Data, Written, Exception}
+use Rattle.master.specs.declared.Reading.TheVariants.{Data, Written, Exception}
 use Rattle.master.specs.Refusals.{least_room}
 use Rattle.master.specs.Building.{over, Build}
 use Rattle.master.specs.Reading.{ReadReply}
@@ -24,11 +23,11 @@ asking station function start operand =
 
 -- a request of these bytes is built
 abbrev pub Builds : Request → List ℕ → List ℕ → Type 0
-Builds request carried bytes = Build request carried room (Frame (length bytes)) (over bytes room)
+Builds request carried bytes = Build request carried room (Ok (length bytes)) (over bytes room)
 
--- this is read, and the buffer then starts with these bytes
-abbrev pub Reads : Request → List ℕ → Reading → List ℕ → Type 0
-Reads request reply reading bytes = ReadReply request reply room reading (over bytes room)
+-- this is answered, and the buffer then starts with these bytes
+abbrev pub Reads : Request → List ℕ → Result Reading Refusal → List ℕ → Type 0
+Reads request reply answer bytes = ReadReply request reply room answer (over bytes room)
 
 -- the requests of the replies below
 abbrev pub four_bits : Request
@@ -72,13 +71,13 @@ pub record Examples : Type 0 where
   pub built_0f : Builds (asking 20 WriteBits0F 0x0018 3) (0xff ∷ [])
       (0x14 ∷ 0x0f ∷ 0x00 ∷ 0x18 ∷ 0x00 ∷ 0x03 ∷ 0x01 ∷ 0x07 ∷ 0x2f ∷ 0xa4 ∷ [])
   -- ---- read: bits, words, a bit that was written, words that were written, an exception
-  pub read_01 : Reads four_bits (0x0a ∷ 0x01 ∷ 0x01 ∷ 0x0f ∷ 0x13 ∷ 0xa8 ∷ []) (Data 1) (0x0f ∷ [])
-  pub read_03 : Reads two_words the_two_words (Data 4) (0x03 ∷ 0xe8 ∷ 0x01 ∷ 0xf4 ∷ [])
-  pub read_05 : Reads bit_on (0x14 ∷ 0x05 ∷ 0x00 ∷ 0x18 ∷ 0xff ∷ 0x00 ∷ 0x0e ∷ 0xf8 ∷ []) Written []
-  pub read_10 : Reads a_weight (0x01 ∷ 0x10 ∷ 0x00 ∷ 0xfb ∷ 0x00 ∷ 0x02 ∷ 0x30 ∷ 0x39 ∷ []) Written []
-  pub exception : Reads word_8 (0x14 ∷ 0x86 ∷ 0x08 ∷ 0x52 ∷ 0x62 ∷ []) (Exception ReadOnly) []
+  pub read_01 : Reads four_bits (0x0a ∷ 0x01 ∷ 0x01 ∷ 0x0f ∷ 0x13 ∷ 0xa8 ∷ []) (Ok (Data 1)) (0x0f ∷ [])
+  pub read_03 : Reads two_words the_two_words (Ok (Data 4)) (0x03 ∷ 0xe8 ∷ 0x01 ∷ 0xf4 ∷ [])
+  pub read_05 : Reads bit_on (0x14 ∷ 0x05 ∷ 0x00 ∷ 0x18 ∷ 0xff ∷ 0x00 ∷ 0x0e ∷ 0xf8 ∷ []) (Ok Written) []
+  pub read_10 : Reads a_weight (0x01 ∷ 0x10 ∷ 0x00 ∷ 0xfb ∷ 0x00 ∷ 0x02 ∷ 0x30 ∷ 0x39 ∷ []) (Ok Written) []
+  pub exception : Reads word_8 (0x14 ∷ 0x86 ∷ 0x08 ∷ 0x52 ∷ 0x62 ∷ []) (Ok (Exception ReadOnly)) []
   -- ---- refused: 81 words; a reply with one bit flipped on the line; code 5; three bits with a fourth one on
-  pub refused_70 : Reads (asking 20 ReadWords03 1 81) [] (Refused Refusal.Request) []
-  pub refused_71 : Damaged the_two_words one_flipped × Reads two_words one_flipped (Refused Refusal.CheckWord) []
-  pub code_5 : Reads word_8 (0x14 ∷ 0x86 ∷ 0x05 ∷ 0x93 ∷ 0xa7 ∷ []) (Refused Refusal.Reply) []
-  pub spare_bit : Reads three_bits (0x14 ∷ 0x01 ∷ 0x01 ∷ 0x0b ∷ 0x14 ∷ 0x43 ∷ []) (Refused Refusal.Reply) []
+  pub refused_70 : Reads (asking 20 ReadWords03 1 81) [] (Err Refusal.Request) []
+  pub refused_71 : Damaged the_two_words one_flipped × Reads two_words one_flipped (Err Refusal.CheckWord) []
+  pub code_5 : Reads word_8 (0x14 ∷ 0x86 ∷ 0x05 ∷ 0x93 ∷ 0xa7 ∷ []) (Err Refusal.Reply) []
+  pub spare_bit : Reads three_bits (0x14 ∷ 0x01 ∷ 0x01 ∷ 0x0b ∷ 0x14 ∷ 0x43 ∷ []) (Err Refusal.Reply) []

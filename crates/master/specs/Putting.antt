@@ -3,15 +3,10 @@
 use Rattle.std.specs.Prelude.{◌≡◌, List, ◌∷◌, ◌++◌, ℕ, ◌+◌, length, take, drop}
 use Rattle.frames.specs.declared.Width.{Width}
 use Rattle.frames.specs.Limits.{bytes_for}
-use Rattle.master.specs.declared.Request.{Request}
-use Rattle.master.specs.Building.{PackedAgain, RequestPut}
+use Rattle.master.specs.Building.{PackedAgain}
 
 -- byte count and data, behind a request's head
 pub record RunPut (width : Width) (count : ℕ) (carried before after : List ℕ) : Type 0 where
   pub packed : List ℕ
   pub are_packed : PackedAgain width count carried packed
   pub written : after ≡ take 6 before ++ (bytes_for width count ∷ packed) ++ drop (7 + length carried) before
-
--- a request without data, whatever data it might carry
-abbrev pub PlainPut : Request → List ℕ → ℕ → List ℕ → Type 0
-PlainPut request before n after = (carried : List ℕ) → RequestPut request carried before n after

@@ -1,6 +1,6 @@
 -- Reading a reply beside the request that it answers.
 -- Assumes nothing.
-use Rattle.std.specs.Prelude.{◌≡◌, ◌⊎◌, ◌≢◌, List, [], ◌∷◌, ◌++◌, ℕ, ◌≤◌, ◌<◌, length, take, drop}
+use Rattle.std.specs.Prelude.{◌≡◌, ◌⊎◌, ◌≢◌, List, [], ◌∷◌, ◌++◌, Result, Ok, Err, ℕ, ◌≤◌, ◌<◌, length, take, drop}
 use Rattle.check_word.specs.Frame.{Right}
 use Rattle.registers.specs.Packing.{packed_bit}
 use Rattle.frames.specs.declared.Act.TheVariants.{Read}
@@ -11,8 +11,9 @@ use Rattle.frames.specs.Fields.{byte, station_field, function_field, start_field
 use Rattle.frames.specs.Limits.{bytes_for, reply_length}
 use Rattle.frames.specs.Exceptions.{code_number, top_bit_set, exception_length}
 use Rattle.master.specs.declared.Request.{Request}
+use Rattle.master.specs.declared.Refusal.{Refusal}
 use Rattle.master.specs.declared.Reading.{Reading}
-use Rattle.master.specs.declared.Reading.TheVariants.{Refused, Data, Written, Exception}
+use Rattle.master.specs.declared.Reading.TheVariants.{Data, Written, Exception}
 use Rattle.master.specs.Requests.{function_number, act, width}
 use Rattle.master.specs.Refusals.{refusal_number, Line, RefusedBy, NotRefused, FieldsRefused}
 
@@ -55,7 +56,6 @@ pub record FitsException (request : Request) (reply : List ℕ) (code : Code) : 
 
 -- the reply fits the request, and this is read from it
 abbrev pub Fits : Request → List ℕ → Reading → Type 0
-Fits request reply (Refused why) = ⊥
 Fits request reply (Data n) = FitsRead request reply n
 Fits request reply Written = FitsWrite request reply
 Fits request reply (Exception code) = FitsException request reply code
@@ -78,20 +78,18 @@ reading_lines request room reply =
     ∷ []
 
 -- what is answered, for a lent buffer of so many bytes
-abbrev pub ToldBy : Request → ℕ → List ℕ → Reading → Type 0
-ToldBy request room reply (Refused why) = RefusedBy (reading_lines request room reply) (refusal_number why)
-ToldBy request room reply (Data n) = NotRefused (reading_lines request room reply) × Fits request reply (Data n)
-ToldBy request room reply Written = NotRefused (reading_lines request room reply) × Fits request reply Written
-ToldBy request room reply (Exception code) = NotRefused (reading_lines request room reply) × Fits request reply (Exception code)
+abbrev pub ToldBy : Request → ℕ → List ℕ → Result Reading Refusal → Type 0
+ToldBy request room reply (Err why) = RefusedBy (reading_lines request room reply) (refusal_number why)
+ToldBy request room reply (Ok reading) = NotRefused (reading_lines request room reply) × Fits request reply reading
 
 -- what it leaves in the buffer: the bits or words, and beyond them what was there; or all that was there
-abbrev pub Left : List ℕ → List ℕ → Reading → List ℕ → Type 0
-Left reply before (Refused why) after = after ≡ before
-Left reply before (Data n) after = after ≡ data_in n reply ++ drop n before
-Left reply before Written after = after ≡ before
-Left reply before (Exception code) after = after ≡ before
+abbrev pub Left : List ℕ → List ℕ → Result Reading Refusal → List ℕ → Type 0
+Left reply before (Err why) after = after ≡ before
+Left reply before (Ok (Data n)) after = after ≡ data_in n reply ++ drop n before
+Left reply before (Ok Written) after = after ≡ before
+Left reply before (Ok (Exception code)) after = after ≡ before
 
 -- what `read_reply` promises; `before` is the lent buffer, and `after` what the call leaves in it
-pub record ReadReply (request : Request) (reply before : List ℕ) (reading : Reading) (after : List ℕ) : Type 0 where
-  pub told : ToldBy request (length before) reply reading
-  pub left : Left reply before reading after
+pub record ReadReply (request : Request) (reply before : List ℕ) (answer : Result Reading Refusal) (after : List ℕ) : Type 0 where
+  pub told : ToldBy request (length before) reply answer
+  pub left : Left reply before answer after

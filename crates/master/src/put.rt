@@ -1,55 +1,48 @@
 // A request that is not refused, written over the start of the lent buffer.
-ghost use Rattle.std.specs.Prelude.{◌≡◌, ◌≢◌, ◌++◌, true, ◌+◌, ◌≤◌, ◌<◌, length, drop};
+ghost use Rattle.std.specs.Prelude.{◌≡◌, ◌++◌, true, ◌+◌, ◌≤◌, ◌<◌, length, drop};
 ghost use Rattle.check_word.specs.Frame.{Put};
 ghost use Rattle.registers.specs.Packing.{Filled};
-ghost use Rattle.frames.specs.declared.Act.TheVariants.{WriteRun};
 ghost use Rattle.frames.specs.Limits.{bytes_for};
-ghost use Rattle.master.specs.Requests.{function_number, width_of, act, request_head, data_size};
+ghost use Rattle.master.specs.Requests.{request_head, data_size};
 ghost use Rattle.master.specs.Refusals.{least_room, OutOfLimits};
 ghost use Rattle.master.specs.Building.{over, PackedAgain, RequestPut};
-ghost use Rattle.master.specs.Putting.{RunPut, PlainPut};
+ghost use Rattle.master.specs.Putting.{RunPut};
 
-use crate::{Request, spare};
-use frames::{BYTE_COUNT_AT, DATA_AT, ECHOED, Width};
+use crate::{Request, limits, spare};
+use frames::{Act, BYTE_COUNT_AT, DATA_AT, ECHOED, Width};
 
-// Writes a request without data, and tells its length.
-pub(crate) fn put_plain(request: Request, number: u8, frame: &mut [u8]) -> usize
-    requires { (number ≡ function_number request.function) × (act request ≢ WriteRun) × (least_room ≤ length frame.old) }
-    ensures { PlainPut request frame.old result frame.new }
-{
-    put_head(request, number, frame);
-    put_end(ECHOED, frame)
-}
-
-// Writes a request with its data, and tells its length.
-pub(crate) fn put_with_data(
-    width: Width,
-    request: Request,
-    number: u8,
-    carried: &[u8],
-    frame: &mut [u8],
-) -> usize
-    requires { (number ≡ function_number request.function) × (act request ≡ WriteRun) × (OutOfLimits request → ⊥)
-        × (width ≡ width_of request.function)
-        × (length carried.now ≡ data_size request) × (least_room ≤ length frame.old) }
+// Writes a request with the data that it has, and tells its length.
+pub(crate) fn put(request: Request, carried: &[u8], frame: &mut [u8]) -> usize
+    requires { (OutOfLimits request → ⊥) × (length carried.now ≡ data_size request) × (least_room ≤ length frame.old) }
     ensures { RequestPut request carried.now frame.old result frame.new }
 {
-    put_head(request, number, frame);
-    put_run(width, request.operand, carried, frame);
-    put_end(DATA_AT + carried.len(), frame)
+    put_head(request, frame);
+    match limits::act_of(request.function) {
+        Act::Read | Act::WriteOne => put_end(ECHOED, frame),
+        Act::WriteRun => {
+            let width = limits::width_of(request.function);
+            put_run(width, request.operand, carried, frame);
+            put_end(DATA_AT + carried.len(), frame)
+        }
+    }
 }
 
 // Station, function, start, and quantity or value.
-fn put_head(request: Request, number: u8, frame: &mut [u8])
-    requires { (number ≡ function_number request.function) × (6 ≤ length frame.old) }
+fn put_head(request: Request, frame: &mut [u8])
+    requires { 6 ≤ length frame.old }
     ensures { frame.new ≡ request_head request ++ drop 6 frame.old }
 {
-    frame[0] = request.station;
-    frame[1] = number;
-    frame[2] = (request.start / 256) as u8;
-    frame[3] = (request.start % 256) as u8;
-    frame[4] = (request.operand / 256) as u8;
-    frame[5] = (request.operand % 256) as u8;
+    let [start_high, start_low] = request.start.to_be_bytes();
+    let [operand_high, operand_low] = request.operand.to_be_bytes();
+    let head = [
+        request.station,
+        u8::from(request.function),
+        start_high,
+        start_low,
+        operand_high,
+        operand_low,
+    ];
+    copy(&head, frame);
 }
 
 // Byte count and data, spare bits as 0.
@@ -69,12 +62,9 @@ fn put_data(width: Width, count: u16, carried: &[u8], buffer: &mut [u8])
         buffer.old buffer.new }
 {
     copy(carried, buffer);
-    match width {
-        Width::Bit => {
-            let last = carried.len() - 1;
-            buffer[last] = spare::without_spare_bits(count, carried[last]);
-        }
-        Width::Word => {}
+    if let Width::Bit = width {
+        let last = carried.len() - 1;
+        buffer[last] = spare::without_spare_bits(count, carried[last]);
     }
 }
 
@@ -83,16 +73,17 @@ pub(crate) fn copy(bytes: &[u8], buffer: &mut [u8])
     requires { length bytes.now ≤ length buffer.old }
     ensures { buffer.new ≡ over bytes.now buffer.old }
 {
-    for i in 0..bytes.len() {
-        buffer[i] = bytes[i];
+    for (i, &byte) in bytes.iter().enumerate() {
+        buffer[i] = byte;
     }
 }
 
 // The check word behind the first n bytes. Tells how many bytes there are then.
+#[tactic(auto, unfolding(promise::specs::Promise::Attempt))]
 fn put_end(n: usize, frame: &mut [u8]) -> usize
     requires { n + 2 ≤ length frame.old }
     ensures { (result ≡ n + 2) × Put n frame.old true frame.new }
 {
-    check_word::put_check_word(frame, n);
+    check_word::put_check_word(frame, n).unwrap();
     n + 2
 }

@@ -123,7 +123,13 @@ fn store_rest(image: &mut [u16], word: usize, count: usize, bytes: &[u8], first:
     if last == 0 {
         return;
     }
-    store_piece(image, word + whole, 0, last, packed_bits(bytes, first + WORD_BITS * whole));
+    store_piece(
+        image,
+        word + whole,
+        0,
+        last,
+        packed_bits(bytes, first + WORD_BITS * whole),
+    );
 }
 
 // Stores a run of packed bits that lies inside the image: what fits into the run's first word, and then the rest, if any.

@@ -17,9 +17,9 @@ loop-from-init c = record {
   passed = ([], nothing_passed c.args.line.now c.args.image.now c.args.held);
 }
 
-pub returns-then-is_err-clause-block_passed : goal.returns-then-is_err-clause-block_passed
+pub returns-in_err-ok-clause-block_passed : goal.returns-in_err-ok-clause-block_passed
 unfolding BlockPassed
-returns-then-is_err-clause-block_passed c = tt
+returns-in_err-ok-clause-block_passed c = rw c.from_residual.ensures tt
 
 pub loop-from-preserved : goal.loop-from-preserved
 loop-from-preserved c =

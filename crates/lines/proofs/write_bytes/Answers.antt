@@ -4,7 +4,6 @@ use Rattle.std.proofs.Common.{◌≡◌, refl, sym, ap, ◌∙◌, List, [], ◌
 use Rattle.std.proofs.Math.Seq.{take-suc, take_at, drop_at, drop-drop, length-take-le, take-length}
 use Rattle.lines.specs.Hex.{spaced}
 use Rattle.lines.proofs.Spaced.{length_spaced, spaced_append}
-use Rattle.lines.proofs.Written.{no_room, is_written}
 use Rattle.lines.proofs.write_bytes.Invariants.{so_far}
 use Rattle.lines.proofs.write_bytes.Goals as goal
 
@@ -29,26 +28,20 @@ one_more bytes text k h =
     rw (start, past, more) refl
 
 pub returns-then-text-bytes : goal.returns-then-text-bytes
-returns-then-text-bytes c = no_room _ _ (λ room. omega (arith, room, length_spaced c.args.bytes.now))
+returns-then-text-bytes c = (λ room. omega (arith, room, length_spaced c.args.bytes.now), refl)
 
 pub loop-k-init : goal.loop-k-init
 unfolding spaced
-loop-k-init c = record { room = omega arith; in_range = omega arith; written = refl }
+loop-k-init c = refl
 
 pub loop-k-preserved : goal.loop-k-preserved
-loop-k-preserved c = record {
-  room = omega arith;
-  in_range = omega arith;
-  written =
-      (rw c.loop-k.invariant.written at c.write_byte.ensures)
-      ∙ one_more c.args.bytes.now c.args.text.now c.loop-k.k (omega arith);
-}
+loop-k-preserved c =
+    (rw c.loop-k.invariant at c.write_byte.ensures) ∙ one_more c.args.bytes.now c.args.text.now c.loop-k.k (omega arith)
 
 pub returns : goal.returns
 returns c =
     let bytes = c.args.bytes.now in
-    let inv = c.loop-k.invariant in
     let all : c.loop-k.k ≡ length bytes = omega arith in
     let size = length_spaced bytes in
-    let text = rw (all, take-length) at inv.written in
-    is_written _ _ _ _ (omega (arith, size)) (omega (arith, size, all)) (rw size text)
+    let text = rw (all, take-length) at c.loop-k.invariant in
+    (omega (arith, size), sym size, rw size text)

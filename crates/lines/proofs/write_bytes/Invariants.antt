@@ -1,6 +1,6 @@
 -- `write_bytes` meets its contract. Invariant: the first k bytes are written, and the rest of the text is as it was.
 -- Assumes nothing.
-use Rattle.std.proofs.Common.{◌≡◌, List, ◌++◌, ℕ, ◌*◌, ◌-◌, ◌≤◌, length, take, drop}
+use Rattle.std.proofs.Common.{◌≡◌, List, ◌++◌, ℕ, ◌*◌, take, drop}
 use Rattle.lines.specs.Hex.{spaced}
 use Rattle.lines.proofs.write_bytes.Given as goal
 
@@ -9,11 +9,4 @@ abbrev pub so_far : List ℕ → List ℕ → ℕ → List ℕ
 so_far bytes text k = spaced (take k bytes) ++ drop (3 * k) text
 
 abbrev pub invariant-loop-k : goal.invariant-loop-k
-invariant-loop-k l = record {
-  room : 3 * length l.bytes ≤ length l.initial.text;
-  in_range : l.k ≤ length l.bytes;
-  written : l.text ≡ so_far l.bytes l.initial.text l.k;
-}
-
-abbrev pub decreases-loop-k : goal.decreases-loop-k
-decreases-loop-k l = length l.bytes - l.k
+invariant-loop-k l = l.text ≡ so_far l.bytes l.initial.text l.k

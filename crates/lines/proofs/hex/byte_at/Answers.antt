@@ -1,61 +1,45 @@
 -- `byte_at` meets its contract: a byte stands where there is a blank and two digits, and nowhere else.
 -- Assumes nothing.
-use Rattle.std.proofs.Common.{◌≡◌, refl, sym, ◌∙◌, inl, inr, ℕ, ◌/◌, ◌%◌, ◌<◌, arith}
-use Rattle.lines.specs.Hex.{digit, upper}
-use Rattle.lines.specs.Places.{DigitValue, ByteAt}
+use Rattle.std.proofs.Common.{◌≡◌, sym, ap, ◌∙◌, List, ◌∷◌, ℕ, suc, ◌*◌, ◌-◌, ◌/◌, ◌%◌, ◌≤◌, ◌<◌, get_or, arith}
+use Rattle.lines.specs.Hex.{blank}
 use Rattle.lines.proofs.Places.{digits_stand, blank_first, high_shown, low_shown}
 use Rattle.lines.proofs.hex.byte_at.Goals as goal
+use Rattle.lines.proofs.hex.byte_at.Goals.{else-k-gt0-via-then-k-gt0+else-line-k-ne-BLANK, else-k-gt0-via-else-k-gt0}
 
--- ---- a value is a digit's, or 16
+-- the character before the digits of a byte: of the first, the blank that is set there
+before_first : (line : List ℕ) (k : ℕ) → k ≤ 0 → get_or (blank ∷ line) (3 * k) 0 ≡ blank
+before_first line k h = let e : 3 * k ≡ 0 = omega arith in ap (λ (i : ℕ). get_or (blank ∷ line) i 0) e
 
-value_is : (c d : ℕ) → DigitValue c d → (d ≡ 16 → ⊥) → (d < 16) × (upper c ≡ digit d)
-unfolding DigitValue
-value_is c d (inl is) some = is
-value_is c d (inr none) some = absurd (some none.0)
+before_other : (line : List ℕ) (k : ℕ) → 0 < k → get_or (blank ∷ line) (3 * k) 0 ≡ get_or line (3 * k - 1) 0
+before_other line k h = let e : 3 * k ≡ suc (3 * k - 1) = omega arith in ap (λ (i : ℕ). get_or (blank ∷ line) i 0) e
 
-value_none : (c d : ℕ) → DigitValue c d → d ≡ 16 → (e : ℕ) → e < 16 → upper c ≡ digit e → ⊥
-unfolding DigitValue
-value_none c d (inl is) same = absurd (omega arith)
-value_none c d (inr none) same = none.1
+pub returns-then-line-k-ne-BLANK : goal.returns-then-line-k-ne-BLANK
+returns-then-line-k-ne-BLANK c byte stands =
+    let line = c.args.line.now in
+    c.if-line-k-ne-BLANK.true
+    (sym (before_other line c.args.k c.if-k-gt0.true) ∙ blank_first line c.args.k byte c.requires stands)
 
-pub returns-then-before-ne-BLANK : goal.returns-then-before-ne-BLANK
-unfolding ByteAt
-returns-then-before-ne-BLANK c =
-    let l = c.args.line.now in
-    inr (
-      refl,
-      λ byte stands. c.if-before-ne-BLANK.true (c.before-2.ensures ∙ blank_first l c.args.k byte c.requires stands),
-    )
+pub returns-in_err-high : goal.returns-in_err-high
+returns-in_err-high c =
+    rw c.from_residual.ensures
+    (λ byte stands. c.in_err-high.ensures (byte / 16) (omega (arith, stands.0))
+    (high_shown c.args.line.now c.args.k byte c.requires stands))
 
-pub returns-then-high-eq-NO_DIGIT : goal.returns-then-high-eq-NO_DIGIT
-unfolding ByteAt
-returns-then-high-eq-NO_DIGIT c =
-    let l = c.args.line.now in
-    let high = c.value-high in
-    inr (
-      refl,
-      λ byte stands. value_none _ high.result high.ensures c.if-high-eq-NO_DIGIT.true (byte / 16) (omega (arith, stands.0))
-          (high_shown l c.args.k byte c.requires stands),
-    )
-
-pub returns-then-low-eq-NO_DIGIT : goal.returns-then-low-eq-NO_DIGIT
-unfolding ByteAt
-returns-then-low-eq-NO_DIGIT c =
-    let l = c.args.line.now in
-    let low = c.value-low in
-    inr (
-      refl,
-      λ byte stands. value_none _ low.result low.ensures c.if-low-eq-NO_DIGIT.true (byte % 16) (omega arith)
-          (low_shown l c.args.k byte c.requires stands),
-    )
+pub returns-in_err-low : goal.returns-in_err-low
+returns-in_err-low c =
+    rw c.from_residual-in_err-low.ensures
+    (λ byte stands. c.in_err-low.ensures (byte % 16) (omega arith)
+    (low_shown c.args.line.now c.args.k byte c.requires stands))
 
 pub returns : goal.returns
-unfolding ByteAt
 returns c =
-    let l = c.args.line.now in
-    let high = c.value-high in
-    let low = c.value-low in
-    let h = value_is _ high.result high.ensures c.if-high-eq-NO_DIGIT.false in
-    let t = value_is _ low.result low.ensures c.if-low-eq-NO_DIGIT.false in
-    inl (digits_stand l c.args.k high.result low.result c.requires
-    (sym c.before-2.ensures ∙ c.if-before-ne-BLANK.false) h.0 h.1 t.0 t.1)
+    let line = c.args.line.now in
+    let k = c.args.k in
+    let high = c.in_ok-high in
+    let low = c.in_ok-low in
+    let first : get_or (blank ∷ line) (3 * k) 0 ≡ blank =
+    elim c.else-k-gt0.branch [
+      | else-k-gt0-via-then-k-gt0+else-line-k-ne-BLANK w ↦ before_other line k w.if-k-gt0.true ∙ w.if-line-k-ne-BLANK.false
+      | else-k-gt0-via-else-k-gt0 w ↦ before_first line k w.if-k-gt0.false
+    ] in
+    digits_stand line k high.high low.low c.requires first high.ensures.0 high.ensures.1 low.ensures.0 low.ensures.1

@@ -7,9 +7,11 @@ use Rattle.lines.specs.Lines.{line_feed}
 use Rattle.lines.specs.Outcomes.{decimal, as_line}
 use Rattle.lines.proofs.place.write_number.Goals as goal
 
-one_digit : (word : List ℕ) (n : ℕ) → n < 10 → as_line (word ++ decimal n) ≡ word ++ (blank ∷ (48 + n % 10) ∷ line_feed ∷ [])
+one_digit : (word : List ℕ) (n : ℕ) → n < 10 → as_line (word ++ decimal n) ≡ word ++ (blank ∷ (48 + n) ∷ line_feed ∷ [])
 unfolding decimal
-one_digit word n h = append_assoc word (decimal n) (line_feed ∷ []) ∙ ap (λ (t : List ℕ). word ++ t) (simp (lt-ltb n 10 h) refl)
+one_digit word n h =
+    let e : n % 10 ≡ n = omega arith in
+    append_assoc word (decimal n) (line_feed ∷ []) ∙ ap (λ (t : List ℕ). word ++ t) (simp (lt-ltb n 10 h, e) refl)
 
 two_digits : (word : List ℕ) (n : ℕ) → 10 ≤ n
     → as_line (word ++ decimal n) ≡ word ++ (blank ∷ (48 + n / 10) ∷ (48 + n % 10) ∷ line_feed ∷ [])

@@ -1,59 +1,56 @@
--- `write_reply` meets its contract: a word, the bytes in the part behind it, and a line feed.
+-- `write_reply` meets its contract: the bytes behind the word's place, then the word, and a line feed.
 -- Assumes nothing.
-use Rattle.std.proofs.Common.{arith, ◌≡◌, refl, sym, ap, ◌∙◌, List, ℕ, [], ◌∷◌, ◌++◌, ◌+◌, ◌*◌, ◌-◌, ◌≤◌, min, length, take, drop, length-append, length-drop}
+use Rattle.std.proofs.Common.{arith, ◌≡◌, sym, ap, ◌∙◌, Some, List, ℕ, [], ◌∷◌, ◌++◌, ◌+◌, ◌-◌, ◌≤◌, ◌<◌, length, take, drop, append_assoc, length-append, length-drop}
+use Rattle.std.proofs.lemmas.List.{drop-append-le, take-append-drop, drop_at}
+use borrow.Rule.Slice.PartMut.{put_mid}
 use lib.ListN.{set, length-take}
+use lib.Seq.{drop-drop, length-take-le}
 use Rattle.slave.specs.Answer.{over}
 use Rattle.lines.specs.Hex.{spaced}
 use Rattle.lines.specs.Lines.{line_feed}
 use Rattle.lines.specs.Outcomes.{reply_word, as_line, Written}
-use Rattle.lines.proofs.Spaced.{length_spaced}
 use Rattle.lines.proofs.Held.{take_min}
-use Rattle.lines.proofs.Written.{no_room, is_written}
-use Rattle.lines.proofs.Behind.{over_longer, over_behind, over_one_more}
+use Rattle.lines.proofs.Behind.{over_one_more}
 use Rattle.lines.proofs.place.write_reply.Goals as goal
 
-size : (xs : List ℕ) → length (as_line (reply_word ++ spaced xs)) ≡ 6 + 3 * length xs
-size xs =
-    let fed = length-append (reply_word ++ spaced xs) (line_feed ∷ []) in
-    omega (arith, fed, length-append reply_word (spaced xs), length_spaced xs)
+-- what stands in a lent part, stands in the whole
+over_part : (ys rest part : List ℕ) (k : ℕ) → length ys ≤ length (take k rest) → part ≡ over ys (take k rest)
+    → part ++ drop k rest ≡ over ys rest
+over_part ys rest part k h e =
+    let m : ℕ = length ys in
+    ap (λ (t : List ℕ). t ++ drop k rest) e ∙ append_assoc ys (drop m (take k rest)) (drop k rest)
+    ∙ ap (λ (t : List ℕ). ys ++ t) (sym (drop-append-le m (take k rest) (drop k rest) h) ∙ ap (drop m) (take-append-drop k rest))
 
--- how many bytes are shown
-shown : (n count : ℕ) (reply : List ℕ) → count ≡ min n (length reply)
-    → (count ≡ length (take n reply)) × (take count reply ≡ take n reply)
-shown n count reply e = (e ∙ sym (length-take n reply), ap (λ (k : ℕ). take k reply) e ∙ take_min n reply)
+-- .. and a text before it
+over_after : (xs ys before : List ℕ) → xs ++ over ys (drop (length xs) before) ≡ over (xs ++ ys) before
+over_after xs ys before = rw (drop-drop, length-append) (sym (append_assoc xs ys (drop (length xs + length ys) before)))
 
--- the part behind the word, once the word is copied, has room for the bytes
-part_written : (text mid part xs : List ℕ) (m : ℕ) → 6 + 3 * length xs ≤ length text → mid ≡ over reply_word text
-    → Written (spaced xs) (take (length mid - 5) (drop 5 mid)) m part
-    → take 5 mid ++ (part ++ drop (length mid - 5) (drop 5 mid)) ≡ over (reply_word ++ spaced xs) text
-part_written text mid part xs m room word written =
-    let long : length mid ≡ length text = ap length word ∙ over_longer reply_word text (omega arith) in
-    let fits : length (spaced xs) ≤ length (take (length mid - 5) (drop 5 mid)) =
-    omega (arith, long, length_spaced xs, length-take (length mid - 5) (drop 5 mid), length-drop 5 mid) in
-    rw word (over_behind reply_word (spaced xs) text part 5 refl (omega arith) (rw word at (written.with_room fits).1))
-
--- and behind the bytes the line feed
-fed : (text whole xs : List ℕ) (n : ℕ) → n ≡ length xs → 6 + 3 * n ≤ length text → whole ≡ over (reply_word ++ spaced xs) text
-    → set whole (5 + 3 * n) line_feed ≡ over (as_line (reply_word ++ spaced xs)) text
-fed text whole xs n e room stands =
-    let head : List ℕ = reply_word ++ spaced xs in
-    let long : length head ≡ 5 + 3 * n = omega (arith, e, length-append reply_word (spaced xs), length_spaced xs) in
-    rw (stands, ← long) (over_one_more head text line_feed (omega (arith, long)))
-
-pub returns-then-text-count : goal.returns-then-text-count
-returns-then-text-count c =
-    let many = shown c.args.n _ c.args.reply.now c.least-count.ensures in
-    no_room _ _ (λ room. omega (arith, room, size (take c.args.n c.args.reply.now), many.0))
+text_written : (text part bytes : List ℕ) (n : ℕ) → 5 < length text
+    → Written bytes (take (length text - 1 - 5) (drop 5 text)) (Some n) part
+    → Written (as_line (reply_word ++ bytes)) text (Some (5 + n + 1))
+    (set (reply_word ++ drop 5 (put_mid 5 (length text - 1 - 5) text part)) (5 + n) line_feed)
+text_written text part bytes n room (fits, long, stands) =
+    let k : ℕ = length text - 1 - 5 in
+    let rest : List ℕ = drop 5 text in
+    let head : List ℕ = reply_word ++ bytes in
+    let size : length head ≡ 5 + n = omega (arith, long, length-append reply_word bytes) in
+    let short : length (take k rest) ≡ k = omega (arith, length-take k rest, length-drop 5 text) in
+    let behind : drop 5 (put_mid 5 k text part) ≡ part ++ drop k rest =
+    drop_at (take 5 text) (part ++ drop k rest) 5 (length-take-le 5 text (omega arith)) in
+    let whole : reply_word ++ drop 5 (put_mid 5 k text part) ≡ over head text =
+    ap (λ (t : List ℕ). reply_word ++ t) (behind ∙ over_part bytes rest part k fits stands) ∙ over_after reply_word bytes text in
+    let full : length (as_line head) ≡ 5 + n + 1 = omega (arith, size, length-append head (line_feed ∷ [])) in (
+      omega (arith, full, fits, short, long),
+      sym full,
+      ap (λ (t : List ℕ). set t (5 + n) line_feed) whole ∙ (rw (← size) (over_one_more head text line_feed (omega (arith, size, fits, short, long)))),
+    )
 
 pub returns : goal.returns
 returns c =
-    let a = c.args in
-    let text = a.text.now in
-    let mid = c.copy_from_slice.new.self ++ drop 5 text in
-    let many = shown a.n c.least-count.result a.reply.now c.least-count.ensures in
-    let word : mid ≡ over reply_word text = ap (λ (t : List ℕ). t ++ drop 5 text) c.copy_from_slice.ensures.after in
-    let written = rw many.1 at c.write_bytes.ensures in
-    let whole = part_written text mid _ (take a.n a.reply.now) _ (omega (arith, many.0)) word written in
-    let long = size (take a.n a.reply.now) in
-    is_written _ _ _ _ (omega (arith, long, many.0)) (omega (arith, long, many.0))
-    (fed text _ (take a.n a.reply.now) c.least-count.result many.0 (omega arith) whole)
+    let text = c.args.text.now in
+    let reply = c.args.reply.now in
+    let shown : take c.min.result reply ≡ take c.args.n reply =
+    ap (λ (k : ℕ). take k reply) c.min.ensures ∙ take_min c.args.n reply in
+    let written = rw shown at c.in_ok-end.ensures in
+    rw c.copy_from_slice.ensures.after
+    (text_written text c.write_bytes.new.text (spaced (take c.args.n reply)) c.in_ok-end.field-0 (omega arith) written)

@@ -3,6 +3,8 @@
 use Rattle.std.proofs.Common.{arith, refl, ap, ◌∙◌, ◌≡◌, List, ◌++◌, ℕ, ◌≤◌, length, drop, length-append, length-drop, length-set, take_at, drop_at}
 use Rattle.std.proofs.lemmas.List.{set-append_left}
 use Rattle.registers.specs.Packing.{bytes_for_bits, bytes_for_words, Filled}
+use Rattle.frames.specs.declared.Width.{Width}
+use Rattle.frames.specs.declared.Width.TheVariants.{Bit, Word}
 use Rattle.master.proofs.SpareBits.{spare_off, words_packed_again, bits_packed_again}
 use Rattle.master.proofs.put.put_data.Goals as goal
 
@@ -26,10 +28,16 @@ returns-in-Bit c =
     (set-append_left xs _ _ _ (omega (arith, size))))
     (bits_packed_again count xs (λ i. (c.type_inv.carried i).fits) size (omega arith)))
 
-pub returns-in-Word : goal.returns-in-Word
-returns-in-Word c =
+-- what is no bit is a word
+is_word : (width : Width) → (width ≡ Bit → ⊥) → width ≡ Word
+is_word Bit other = absurd (other refl)
+is_word Word other = refl
+
+pub returns-in_default : goal.returns-in_default
+returns-in_default c =
     let xs = c.args.carried.now in
-    let size : length xs ≡ bytes_for_words c.args.count = rw c.in-Word.is at c.requires.1 in
-    rw c.in-Word.is
+    let is = is_word c.args.width c.in_default.not-Bit in
+    let size : length xs ≡ bytes_for_words c.args.count = rw is at c.requires.1 in
+    rw is
     (filled_start (length xs) _ xs c.args.buffer.now _ refl (omega arith) (rw c.copy.ensures refl)
     (words_packed_again c.args.count xs (λ i. (c.type_inv.carried i).fits) size))
