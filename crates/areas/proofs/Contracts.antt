@@ -13,13 +13,17 @@ use types.Logic.{Logic}
 use contract.Monad.{Fun, fact}
 use denote.Triple.Entry.{Args}
 use Rattle.promise.specs.Promise.{Determined}
-use Rattle.std.specs.Prelude.{Option, None}
+use Rattle.std.specs.Prelude.{Option, None, Result}
+use Rattle.areas.specs.declared.Access.{Access}
+use Rattle.areas.specs.declared.UnknownAccess.{UnknownAccess}
 use Rattle.areas.specs.declared.Verdict.{Verdict}
 use Rattle.areas.specs.Rules.{most_areas}
 use Rattle.areas.specs.Calls.{Survey}
+use Rattle.areas.proofs.Words.{access_named_determined}
 use Rattle.areas.proofs.Laws as laws
 use Rattle.areas.specs.contracts.survey as survey
 use Rattle.areas.proofs.survey_words.Reads as survey-words
+use Rattle.areas.proofs.AccessTryFromU16.try_from.Reads as access
 
 abbrev pub Promised : (κs : _) → Args survey.signature κs → Option Verdict → Type 0
 Promised κs a = Survey a.0.now a.1.0 a.1.1.0
@@ -48,3 +52,8 @@ survey_words_takes κs a = tt
 
 survey_words_determined : (κs : _) (a : _) (x y : Option Verdict) (s t : _) → survey-words.Post κs a x s → survey-words.Post κs a y t → x ≡ y
 survey_words_determined κs a x y s t = laws.SurveyWordsDetermined a.0.now a.1.0 a.1.1.0 x y
+
+-- ---- what an access word stands for
+
+access_determined : (κs : _) (a : _) (x y : Result Access UnknownAccess) (s t : _) → access.Post κs a x s → access.Post κs a y t → x ≡ y
+access_determined κs a x y s t = access_named_determined a.0 x y

@@ -12,6 +12,7 @@ use Rattle.std.specs.Prelude.{Result, Ok, Err, Some, None}
 use Rattle.std.specs.Result.{result_ok}
 use Rattle.std.proofs.lemmas.Option.{none-some, same_Some}
 use Rattle.std.proofs.lemmas.List.{get_or-drop, drop-drop}
+use Rattle.promise.specs.Promise.{Determined}
 use Rattle.areas.specs.declared.Access.{Access}
 use Rattle.areas.specs.declared.Access.TheVariants.{ReadOnly, ReadWrite}
 use Rattle.areas.specs.declared.Area.{Area}
@@ -109,6 +110,12 @@ access_apart ReadOnly ReadOnly e = refl
 access_apart ReadOnly ReadWrite e = absurd (omega (arith, e))
 access_apart ReadWrite ReadOnly e = absurd (omega (arith, e))
 access_apart ReadWrite ReadWrite e = refl
+
+pub access_named_determined : (word : ℕ) → Determined (AccessNamed word)
+access_named_determined word (Ok a) (Ok b) p q = ap Ok (access_apart a b (p ∙ sym q))
+access_named_determined word (Ok a) (Err v) p (e, none) = absurd (none a p)
+access_named_determined word (Err u) (Ok b) (e, none) q = absurd (none b q)
+access_named_determined word (Err u) (Err v) p q = grind (arith, p.0, q.0)
 
 pub one_list : (a b : List Area) → area_words a ≡ area_words b → a ≡ b
 unfolding area_words

@@ -47,6 +47,7 @@ pub struct NoRoom;
 
 // Puts the check word of the buffer's first n bytes behind them, low byte first.
 // Every other byte keeps its content; without room all do.
+#[tactic(auto, unfolding(promise::specs::Promise::Attempt))]
 pub fn put_check_word(buffer: &mut [u8], n: usize) -> Result<(), NoRoom>
     ensures { Put n buffer.old (is_ok result) buffer.new }
 {

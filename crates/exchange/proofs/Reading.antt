@@ -7,6 +7,7 @@ use Prim.Native.Nat.{ℕ, ◌≤◌}
 use native.Mathlib.Omega.{arith}
 use lib.ListN.{length, drop}
 use lib.Seq.{take-append_seam}
+use Rattle.std.specs.Prelude.{Result, Ok}
 use Rattle.check_word.specs.CheckWord.{check_word}
 use Rattle.check_word.specs.Frame.{low_first, framed}
 use Rattle.check_word.proofs.Laws as check-word
@@ -15,6 +16,7 @@ use Rattle.frames.specs.declared.Code.{Code}
 use Rattle.frames.specs.Limits.{bytes_for}
 use Rattle.frames.specs.Exceptions.{code_number, top_bit_set, exception_frame}
 use Rattle.master.specs.declared.Request.{Request}
+use Rattle.master.specs.declared.Refusal.{Refusal}
 use Rattle.master.specs.declared.Reading.{Reading}
 use Rattle.master.specs.declared.Reading.TheVariants.{Data, Written, Exception}
 use Rattle.master.specs.Requests.{function_number, act, width, request_head}
@@ -29,18 +31,18 @@ use Rattle.exchange.proofs.Fields.{head_start, head_operand}
 
 module _ (request : Request) (buffer : List ℕ) (fields : FieldsRefused request (length buffer) → ⊥) where
   frame_read : (body : List ℕ) (reading : Reading) (bytes : List ℕ) → 3 ≤ length body → Fits request (framed body) reading
-      → Left (framed body) buffer reading (bytes ++ drop (length bytes) buffer)
+      → Left (framed body) buffer (Ok reading) (bytes ++ drop (length bytes) buffer)
       → ReadAs request (framed body) buffer reading bytes
   frame_read body reading bytes long fits left =
       let told = told_right request (length buffer) (framed body) reading fields
       (omega (arith, framed_length body)) (check-word.Framing body) fits in
-      let read : ReadReply request (framed body) buffer reading (bytes ++ drop (length bytes) buffer) =
+      let read : ReadReply request (framed body) buffer (Ok reading) (bytes ++ drop (length bytes) buffer) =
       record { told = told; left = left } in
       record {
         is_read = read;
         nothing_else = λ other after also.
-            let same = ReadReplyDetermined request (framed body) buffer (other, after) (reading, _) also read in
-            (ap (λ (a : Reading × List ℕ). a.0) same, ap (λ (a : Reading × List ℕ). a.1) same);
+            let same = ReadReplyDetermined request (framed body) buffer (other, after) (Ok reading, _) also read in
+            (ap (λ (a : Result Reading Refusal × List ℕ). a.0) same, ap (λ (a : Result Reading Refusal × List ℕ). a.1) same);
       }
 
   pub reply_to_read : (shown : List ℕ) → act request ≡ Read → length shown ≡ bytes_for (width request) request.operand

@@ -1,6 +1,6 @@
 -- The words that the laws of an exchange are stated with.
 -- Assumes nothing.
-use Rattle.std.specs.Prelude.{◌≡◌, ◌⊎◌, ◌≢◌, List, [], ℕ, length, take}
+use Rattle.std.specs.Prelude.{◌≡◌, ◌⊎◌, ◌≢◌, List, [], Result, Ok, ℕ, length, take}
 use Rattle.frames.specs.declared.Act.{Act}
 use Rattle.frames.specs.declared.Act.TheVariants.{Read, WriteOne, WriteRun}
 use Rattle.slave.specs.declared.Refusal.{Refusal}
@@ -10,7 +10,7 @@ use Rattle.slave.specs.Conditions.{counted_from0}
 use Rattle.slave.specs.Answer.{Shown, over, Call, Answer}
 use Rattle.demands.specs.Terms.{sent, SetsExactly, one_datum, run_data}
 use Rattle.master.specs.declared.Request.{Request}
-use Rattle.master.specs.declared.Built.TheVariants.{Frame}
+use Rattle.master.specs.declared.Refusal as master
 use Rattle.master.specs.declared.Reading.{Reading}
 use Rattle.master.specs.declared.Reading.TheVariants.{Data, Written, Exception}
 use Rattle.master.specs.Requests.{act, width}
@@ -22,7 +22,7 @@ pub record Received (request : Request) (carried : List ℕ) (call : Call) : Typ
   pub before : List ℕ
   pub n : ℕ
   pub after : List ℕ
-  pub built : Build request carried before (Frame n) after
+  pub built : Build request carried before (Ok n) after
   pub frame : call.frame ≡ take n after
   pub address : call.station.own ≡ request.station
 
@@ -37,9 +37,9 @@ GivenToABuiltRequest kind =
 
 -- beside the request this is read from the reply, and nothing else, into a buffer that then starts with these bytes
 pub record ReadAs (request : Request) (reply buffer : List ℕ) (reading : Reading) (bytes : List ℕ) : Type 0 where
-  pub is_read : ReadReply request reply buffer reading (over bytes buffer)
-  pub nothing_else : (other : Reading) (after : List ℕ) → ReadReply request reply buffer other after
-      → (other ≡ reading) × (after ≡ over bytes buffer)
+  pub is_read : ReadReply request reply buffer (Ok reading) (over bytes buffer)
+  pub nothing_else : (other : Result Reading master.Refusal) (after : List ℕ) → ReadReply request reply buffer other after
+      → (other ≡ Ok reading) × (after ≡ over bytes buffer)
 
 -- the first address that a request names, by the station's counting
 abbrev pub first_named : Request → Call → ℕ

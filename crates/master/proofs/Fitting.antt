@@ -1,29 +1,18 @@
--- Which readings fit a reply, by its station and function and what the function does; and what is made of what is found.
+-- That nothing fits a reply, by what its request's function does.
 -- Assumes nothing.
-use mathlib.Core.Path.{◌≡◌, refl, sym, ◌∙◌}
-use mathlib.Core.Logic.{◌⊎◌, inl, inr, ⊎_elim, ◌≢◌}
+use mathlib.Core.Path.{◌≡◌, sym, ◌∙◌}
+use mathlib.Core.Logic.{◌≢◌}
 use mathlib.Core.List.{List}
-use Prim.Native.Nat.{ℕ, ◌<◌, ◌≤◌}
-use native.Mathlib.Omega.{arith}
-use lib.ListN.{length}
-use Rattle.std.specs.Prelude.{Result, Ok, Err}
-use Rattle.check_word.specs.Frame.{Right}
+use Prim.Native.Nat.{ℕ}
 use Rattle.frames.specs.declared.Act.TheVariants.{Read}
 use Rattle.frames.specs.declared.Code.{Code}
 use Rattle.frames.specs.Fields.{function_field}
-use Rattle.frames.specs.Limits.{bytes_for}
 use Rattle.frames.specs.Exceptions.{top_bit_set}
 use Rattle.master.specs.declared.Request.{Request}
-use Rattle.master.specs.declared.Refusal.{Refusal}
-use Rattle.master.specs.declared.Reading.{Reading}
 use Rattle.master.specs.declared.Reading.TheVariants.{Data, Written, Exception}
-use Rattle.master.specs.Requests.{function_number, act, width}
-use Rattle.master.specs.Refusals.{OutOfLimits, FieldsRefused}
-use Rattle.master.specs.Reading.{FitsRead, FitsWrite, FitsException, NothingFits, shortest_reply, ToldBy}
-use Rattle.master.specs.Fitting.{FitFound}
+use Rattle.master.specs.Requests.{function_number, act}
+use Rattle.master.specs.Reading.{FitsRead, FitsWrite, FitsException, NothingFits}
 use Rattle.master.proofs.Numbers.{number_no_exception}
-use Rattle.master.proofs.Within.{quantity_in_limits}
-use Rattle.master.proofs.Accepting.{told_right}
 
 -- ---- no reading fits
 
@@ -58,19 +47,3 @@ module _ (request : Request) (reply : List ℕ) where
       → ((n : ℕ) → FitsRead request reply n → ⊥) → NothingFits request reply
   no_read plain reads none =
       nothing_fits none (λ fits. fits.writes reads) (λ code fits. plain_or_set plain fits.function)
-
--- ---- a read that keeps the limits
-
-pub read_limits : (request : Request) → act request ≡ Read → (OutOfLimits request → ⊥)
-    → (1 ≤ request.operand) × (bytes_for (width request) request.operand ≤ 160)
-read_limits request reads kept = rw reads at (quantity_in_limits request kept)
-
--- ---- what `read_reply` makes of what is found, where neither 70 nor 71 applies
-
-pub found_told : (request : Request) (reply : List ℕ) (room : ℕ) → (FieldsRefused request room → ⊥)
-    → shortest_reply ≤ length reply → Right reply → (answer : Result Reading Refusal) → FitFound request reply answer
-    → ToldBy request room reply answer
-found_told request reply room allowed long right (Err why) found =
-    let not-71 : (length reply < shortest_reply) ⊎ (Right reply → ⊥) → ⊥ = ⊎_elim (λ short. omega arith) (λ wrong. wrong right) in
-    rw found.0 (inr (allowed, inr (not-71, inl (found.1, refl))))
-found_told request reply room allowed long right (Ok reading) found = told_right request room reply reading allowed long right found

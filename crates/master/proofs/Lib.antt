@@ -4,7 +4,6 @@ mod Body
 pub mod Framed
 mod Putting
 pub mod SpareBits
-mod Within
 pub mod Fits
 mod Fitting
 mod Requests

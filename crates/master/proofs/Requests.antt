@@ -17,7 +17,7 @@ use Rattle.frames.specs.declared.Act.{Act}
 use Rattle.frames.specs.declared.Act.TheVariants.{Read, WriteOne, WriteRun}
 use Rattle.frames.specs.declared.Width.{Width}
 use Rattle.frames.specs.declared.Width.TheVariants.{Bit, Word}
-use Rattle.frames.specs.Limits.{most}
+use Rattle.frames.specs.Limits.{most, bytes_for}
 use Rattle.master.specs.declared.Request.{Request}
 use Rattle.master.specs.declared.Refusal.{Refusal}
 use Rattle.master.specs.Requests.{act, width, quantity_for, quantity, request_head}
@@ -27,10 +27,17 @@ use Rattle.master.specs.Laws.{BuiltFrames}
 use Rattle.master.proofs.Numbers.{refusals_apart}
 use Rattle.master.proofs.Lines.{refused_determined, refused_or_not}
 use Rattle.master.proofs.SpareBits.{packed_size}
-use Rattle.master.proofs.Within.{most_bytes}
 use Rattle.master.proofs.Framed.{framed_length}
 
 -- ---- how long it is
+
+most_bytes : (act : Act) (width : Width) (count : ℕ) → count ≤ most act width → bytes_for width count ≤ 160
+most_bytes Read Bit count h = omega arith
+most_bytes Read Word count h = omega arith
+most_bytes WriteOne Bit count h = omega arith
+most_bytes WriteOne Word count h = omega arith
+most_bytes WriteRun Bit count h = omega arith
+most_bytes WriteRun Word count h = omega arith
 
 following_short : (act : Act) (width : Width) (operand : ℕ) (carried rest : List ℕ) → quantity_for act operand ≤ most act width
     → Following act width operand carried rest → length rest ≤ 161

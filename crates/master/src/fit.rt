@@ -60,6 +60,7 @@ fn fit_exception(request: Request, reply: &[u8]) -> Result<Reading, Refusal>
 }
 
 // Of a reply from this station to this function, which writes: it echoes the request's fields.
+#[tactic(auto, using(crate::proofs::Fitting::no_write))]
 fn fit_write(request: Request, reply: &[u8]) -> Result<Reading, Refusal>
     requires { (station_field reply.now ≡ request.station)
         × (function_field reply.now ≡ function_number request.function) × (act request ≢ Act.Read) }
@@ -81,6 +82,7 @@ fn fit_write(request: Request, reply: &[u8]) -> Result<Reading, Refusal>
 }
 
 // Of a reply from this station to this function, which reads: it has the bytes of the quantity.
+#[tactic(auto, using(crate::proofs::Fitting::no_read))]
 fn fit_read(request: Request, reply: &[u8]) -> Result<Reading, Refusal>
     requires { (station_field reply.now ≡ request.station)
         × (function_field reply.now ≡ function_number request.function) × (act request ≡ Act.Read)

@@ -83,7 +83,6 @@ pub fn build(request: Request, carried: &[u8], frame: &mut [u8]) -> Result<usize
 
 // Reads a reply beside the request that it answers. The bytes of the buffer beyond the data keep their content; where no data are
 // read, all do.
-#[tactic(auto, using(crate::proofs::Fitting::found_told))]
 pub fn read_reply(request: Request, reply: &[u8], buffer: &mut [u8]) -> Result<Reading, Refusal>
     ensures { ReadReply request reply.now buffer.old result buffer.new }
 {

@@ -1,6 +1,6 @@
 -- `survey_words` meets its contract: a turn reads the next three words; behind the last ones there is a list whose words they are.
 -- Assumes nothing.
-use Rattle.std.proofs.Common.{◌≡◌, ℕ, ◌+◌, ◌*◌, ◌<◌, ◌≤◌, List, length, length-drop, ap, ◌∙◌, arith, rules}
+use Rattle.std.proofs.Common.{◌≡◌, ℕ, ◌+◌, ◌*◌, ◌<◌, ◌≤◌, List, length, drop, length-drop, ap, ◌∙◌, arith, rules}
 use Rattle.std.proofs.lemmas.List.{length_push}
 use mathlib.Core.Logic.{inl, inr}
 use Rattle.areas.specs.declared.Area.{Area}
@@ -78,13 +78,15 @@ loop-entry-preserved c =
 pub returns : goal.returns
 returns c =
     let inv = c.loop-entry.invariant in
-    let short : length c.args.area_words.now < length c.loop-entry.yielded * 3 + 3 = omega (arith, c.in-None.ensures.steps.1.0, inv.size, ap length inv.left, length-drop (length c.loop-entry.yielded * 3) c.args.area_words.now, inv.within) in
-    let all : length c.loop-entry.yielded * 3 ≡ length c.args.area_words.now = omega (arith, inv.within, short) in
+    let words = c.args.area_words.now in
+    let n = length c.loop-entry.yielded in
+    let short : length (drop (n * 3) words) < 3 = omega (arith, c.in-None.ensures.steps.1.0, inv.size, ap length inv.left) in
+    let all : n * 3 ≡ length words = omega (arith, short, length-drop (n * 3) words, inv.within) in
     λ areas. elim [
       | inl e ↦
-          let long = as_many c.args.area_words.now areas e in
-          let last : length c.loop-entry.yielded ≡ length areas = omega arith in
+          let long = as_many words areas e in
+          let last : n ≡ length areas = omega arith in
           let so = rw last at inv.sought areas e in
           (chain_kept _ _ so.chain (omega arith), c.verdict.ensures areas c.args.words c.args.run so)
-      | inr (none, breaks) ↦ absurd (of_a_list c.args.area_words.now (length c.loop-entry.yielded) all inv.named none)
+      | inr (none, breaks) ↦ absurd (of_a_list words n all inv.named none)
     ]

@@ -1,6 +1,6 @@
 -- `put_check_word` meets its contract: two stores behind the body make it a frame, and leave the rest.
 -- Assumes nothing.
-use Rattle.std.proofs.Common.{arith, ◌≡◌, ℕ, List, [], ◌∷◌, ◌++◌, ◌+◌, ◌/◌, ◌%◌, ◌≤◌, ◌<◌, refl, ap, ◌∙◌, length, take, drop, get_or}
+use Rattle.std.proofs.Common.{arith, ◌≡◌, ℕ, List, [], ◌∷◌, ◌++◌, ◌+◌, ◌/◌, ◌%◌, ◌≤◌, ◌<◌, ap, ◌∙◌, length, take, drop, get_or}
 use native.Mathlib.Numerals.{add-one}
 use lib.ListN.{set}
 use lib.Seq.{sets-eq}
@@ -16,10 +16,6 @@ two_stored b word n w h small bytes e =
     rw (bytes, high)
     (ap (λ (i : ℕ). set (set b n (w % 256)) i (w / 256)) (add-one n) ∙ sets-eq (low_first w) b n h
     ∙ ap (λ (x : ℕ). take n b ++ low_first x ++ drop (n + 2) b) e)
-
-pub returns-then-saturating_sub-lt2 : goal.returns-then-saturating_sub-lt2
-unfolding Attempt
-returns-then-saturating_sub-lt2 c = (λ room. omega arith, refl)
 
 pub returns : goal.returns
 unfolding Attempt

@@ -1,0 +1,17 @@
+-- `answer_lines` meets its contract. Invariant: what is used up so far is answered, and nothing is written before something is
+-- used up.
+-- Assumes nothing.
+use Rattle.std.proofs.Common.{◌≡◌, ◌-◌, length}
+use Rattle.bench.specs.Blocks.{Progressed}
+use Rattle.bench.proofs.Progressing.{progress}
+use Rattle.bench.proofs.answer.Session.answer_lines.Given as goal
+
+abbrev pub invariant-loop-used : goal.invariant-loop-used
+invariant-loop-used l = record {
+  none_yet : l.used ≡ 0 → l.written ≡ 0;
+  progressed : Progressed l.block l.fn.self.line l.fn.self.held l.fn.self.image l.fn.text (progress l.used l.written)
+      l.self.line l.self.held l.self.image l.text;
+}
+
+abbrev pub decreases-loop-used : goal.decreases-loop-used
+decreases-loop-used l = length l.block - l.used
