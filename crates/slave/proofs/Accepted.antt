@@ -23,7 +23,7 @@ use Rattle.slave.specs.declared.decide.Decision.TheVariants.{Refused, Silent, Ex
 use Rattle.slave.specs.Numbers.{Kind, exception, accepted}
 use Rattle.slave.specs.Conditions.{least_room, AddressedBy}
 use Rattle.slave.specs.Table.{FirstDecides, table}
-use Rattle.slave.specs.Deciding.{Reads, Decided, Some, words_of}
+use Rattle.slave.specs.Deciding.{Reads, Decided, SomeAddressed, words_of}
 use Rattle.slave.specs.Carrying.{Inside, Possible, CanBeDone}
 use Rattle.slave.proofs.Cases.{kind_place}
 use Rattle.slave.proofs.Stable.{still_same, still_at_most, still_right}
@@ -33,7 +33,7 @@ use Rattle.slave.proofs.Judging.{some_addressed}
 
 -- a run none of whose words is in no area lies inside the image
 run_inside : (words : ℕ) (areas : List Area) → RulesKept words areas → (width : Width) (first count : ℕ) → 1 ≤ count
-    → (Some (AddressedBy width first count) (InNoArea areas) → ⊥) → Inside width words first count
+    → (SomeAddressed (AddressedBy width first count) (InNoArea areas) → ⊥) → Inside width words first count
 run_inside words areas rules Bit first count some held =
     let each = (areas-laws.AllAddressable areas (first / word_bits) (words_of first count)).0
     (λ (word, among, none). held (word, words_addressed first count some word among, none)) in
@@ -58,7 +58,7 @@ module _ (station : Station) (areas : List Area) (words room : ℕ) (frame : Lis
       let function = reads.function in
       let some : 1 ≤ request.count =
       still_at_most _ _ (λ few. asked.1.0 (rw (function, ← reads.count) (omega (arith, few)))) in
-      let held : Some (AddressedBy request.width request.first request.count) (InNoArea areas) → ⊥ =
+      let held : SomeAddressed (AddressedBy request.width request.first request.count) (InNoArea areas) → ⊥ =
       λ s. limits.1.0 (inr (some_addressed station frame request reads (InNoArea areas) s)) in
       record {
         count_read = reads.count;

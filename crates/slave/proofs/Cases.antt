@@ -2,12 +2,11 @@
 -- Assumes nothing.
 use mathlib.Core.Path.{◌≡◌, ap, ◌∙◌, sym}
 use Prim.Native.Nat.{ℕ}
+use Rattle.std.specs.Prelude.{Option, Some, None}
 use Rattle.frames.specs.declared.Act.{Act}
 use Rattle.frames.specs.declared.Act.TheVariants.{Read, WriteOne, WriteRun}
 use Rattle.frames.specs.declared.Width.{Width}
 use Rattle.frames.specs.declared.Width.TheVariants.{Bit, Word}
-use Rattle.frames.specs.declared.Lookup.{Lookup}
-use Rattle.frames.specs.declared.Lookup.TheVariants.{Found, NotInTable}
 use Rattle.slave.specs.declared.Counting.{Counting}
 use Rattle.slave.specs.declared.Counting.TheVariants.{ModBus, JBus}
 use Rattle.slave.specs.declared.State.{State}
@@ -23,9 +22,9 @@ abbrev pub width_place : Width → ℕ
 width_place Bit = 0
 width_place Word = 1
 
-abbrev pub lookup_place : Lookup → ℕ
-lookup_place (Found act width) = 0
-lookup_place NotInTable = 1
+abbrev pub lookup_place : Option (Act × Width) → ℕ
+lookup_place (Some line) = 0
+lookup_place None = 1
 
 abbrev pub counting_place : Counting → ℕ
 counting_place ModBus = 0

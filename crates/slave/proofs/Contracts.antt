@@ -5,7 +5,7 @@
 use mathlib.Core.Path.{◌≡◌, refl}
 use mathlib.Core.List.{List}
 use Prim.Native.Nat.{ℕ, ◌≤◌}
-use lib.ListN.{length, take}
+use lib.ListN.{length}
 use seplogic.Ra.Ura.{Ura}
 use base.Logic.{SProp, emp}
 use prog.Memory.{Memory}
@@ -25,12 +25,11 @@ use Rattle.slave.specs.Answer.{Call, Answer, Respond}
 use Rattle.slave.specs.Laws as laws-of
 use Rattle.slave.proofs.Laws as laws
 use Rattle.slave.specs.contracts.respond as respond
-use Rattle.slave.specs.contracts.respond_first as respond_first
 use Rattle.slave.proofs.respond_to_words.Reads as to-words
 use Rattle.slave.proofs.respond_by_value.Reads as by_value
 use Rattle.slave.proofs.to_send.Reads as to-send
-use Rattle.slave.proofs.refusal_number.Reads as refusal-number
-use Rattle.slave.proofs.silence_number.Reads as silence-number
+use Rattle.slave.proofs.U8FromRefusal.from.Reads as refusal-number
+use Rattle.slave.proofs.U8FromSilence.from.Reads as silence-number
 
 abbrev call_of : Station → List Area → List ℕ → List ℕ → List ℕ → Call
 call_of station areas frame image reply = record { station = station; areas = areas; frame = frame; image = image; reply = reply }
@@ -52,13 +51,6 @@ respond_ensures 𝓛 mem run κs a x s = refl
 respond_takes : {M : Type 1} {𝓤 : Ura M} (𝓛 : Logic 𝓤) (mem : Memory → SProp 𝓤) (run : Routine → Fun 𝓤)
     (κs : _) (a : _) → (respond.clauses 𝓛 mem run κs a).requires tt ≡ emp 𝓤
 respond_takes 𝓛 mem run κs a = refl
-
--- what the private `respond_first` ensures is `Respond` of the first n entries: `a.1.0` are the entries, `a.1.1.0` is n
-respond_first_ensures : {M : Type 1} {𝓤 : Ura M} (𝓛 : Logic 𝓤) (mem : Memory → SProp 𝓤) (run : Routine → Fun 𝓤)
-    (κs : _) (a : _) (x : Outcome) (s : _)
-    → (respond_first.clauses 𝓛 mem run κs a).ensures tt x s
-    ≡ fact 𝓤 (Respond a.0 (take a.1.1.0 a.1.0) a.1.1.1.0.now a.1.1.1.1.0.now a.1.1.1.1.1.0.now x s.1.1.1.1.0.now s.1.1.1.1.1.0.now)
-respond_first_ensures 𝓛 mem run κs a x s = refl
 
 abbrev lent_call : (κs : _) → Args respond.signature κs → Call
 lent_call κs a = call_of a.0 a.1.0.now a.1.1.0.now a.1.1.1.0.now a.1.1.1.1.0.now

@@ -2,6 +2,7 @@
 -- Assumes nothing.
 use mathlib.Core.Path.{◌≡◌, refl, sym, ap, subst, ◌∙◌}
 use mathlib.Core.List.{List, ◌∷◌}
+use Rattle.std.specs.Prelude.{Option, Some, None}
 use Prim.Native.Nat.{ℕ, ◌<◌}
 use native.Mathlib.Omega.{arith}
 use lib.Dec.{eqb}
@@ -17,8 +18,6 @@ use Rattle.frames.specs.declared.Act.{Act}
 use Rattle.frames.specs.declared.Act.TheVariants.{Read, WriteOne, WriteRun}
 use Rattle.frames.specs.declared.Width.{Width}
 use Rattle.frames.specs.declared.Width.TheVariants.{Bit, Word}
-use Rattle.frames.specs.declared.Lookup.{Lookup}
-use Rattle.frames.specs.declared.Lookup.TheVariants.{Found, NotInTable}
 use Rattle.frames.specs.Fields.{function_field, quantity_field, value_field, data_field}
 use Rattle.frames.specs.Functions.{function_of}
 use Rattle.frames.specs.Limits.{bytes_for, on}
@@ -77,13 +76,13 @@ module _ (station : Station) (frame image reply : List ℕ) where
   abbrev Left : Outcome → List ℕ → List ℕ → Type 0
   Left = Leaves station frame image reply
 
-  found_determined : (lookup : Lookup) (n m : ℕ) (i j r s : List ℕ)
+  found_determined : (lookup : Option (Act × Width)) (n m : ℕ) (i j r s : List ℕ)
       → OfFound lookup (λ act width. Done station.own (first_addressed station frame) frame image reply act width n i r)
       → OfFound lookup (λ act width. Done station.own (first_addressed station frame) frame image reply act width m j s)
       → (n ≡ m) × (i ≡ j) × (r ≡ s)
-  found_determined (Found act width) n m i j r s p q =
+  found_determined (Some (act, width)) n m i j r s p q =
       done_determined station.own (first_addressed station frame) frame image reply act width n m i j r s p q
-  found_determined NotInTable n m i j r s p q = absurd p
+  found_determined None n m i j r s p q = absurd p
 
   -- an outcome that fixes image and reply buffer
   fixed : (a b : Outcome) (image' reply' i j r s : List ℕ)

@@ -17,7 +17,7 @@ use Rattle.slave.specs.declared.Station.{Station}
 use Rattle.slave.specs.declared.decide.Request.{Request}
 use Rattle.slave.specs.declared.decide.Decision.{Decision}
 use Rattle.slave.specs.Conditions.{NamesNothing, AddressedBy, SomeAddressedWord, Writes}
-use Rattle.slave.specs.Deciding.{Reads, Decided, area_lines, Some, JudgedBy, accept_if_a_read, by_verdict}
+use Rattle.slave.specs.Deciding.{Reads, Decided, area_lines, SomeAddressed, JudgedBy, accept_if_a_read, by_verdict}
 use Rattle.slave.proofs.Cases.{act_place, apart}
 use Rattle.slave.proofs.Lines.{here, past, accept}
 
@@ -26,10 +26,10 @@ module _ (station : Station) (frame : List ℕ) (request : Request) (reads : Rea
   Addressed = AddressedBy request.width request.first request.count
 
   -- what a request addresses, the frame does
-  pub some_addressed : (Such : ℕ → Type 0) → Some Addressed Such → SomeAddressedWord station frame Such
+  pub some_addressed : (Such : ℕ → Type 0) → SomeAddressed Addressed Such → SomeAddressedWord station frame Such
   some_addressed Such s = rw (reads.function, ← reads.first, ← reads.count) s
 
-  addressed_some : (Such : ℕ → Type 0) → SomeAddressedWord station frame Such → Some Addressed Such
+  addressed_some : (Such : ℕ → Type 0) → SomeAddressedWord station frame Such → SomeAddressed Addressed Such
   addressed_some Such s = rw (reads.first, reads.count) (rw reads.function at s)
 
   writes : request.act ≢ Read → Writes frame
@@ -40,16 +40,16 @@ module _ (station : Station) (frame : List ℕ) (request : Request) (reads : Rea
 
   module _ (areas : List Area) (somewhere : NamesNothing station frame → ⊥) where
     -- behind line E2
-    past_areas : {decision : Decision} → (Some Addressed (InNoArea areas) → ⊥)
+    past_areas : {decision : Decision} → (SomeAddressed Addressed (InNoArea areas) → ⊥)
         → Decided (drop 1 (area_lines station frame areas)) station frame decision
         → Decided (area_lines station frame areas) station frame decision
     past_areas held = past (⊎_elim somewhere (λ s. held (addressed_some (InNoArea areas) s)))
 
-    written : request.act ≢ Read → Some Addressed (OfAreaWith ReadOnly areas)
+    written : request.act ≢ Read → SomeAddressed Addressed (OfAreaWith ReadOnly areas)
         → Decided (drop 1 (area_lines station frame areas)) station frame (accept_if_a_read WriteOne request)
     written write s = here (writes write, some_addressed (OfAreaWith ReadOnly areas) s) refl tt
 
-    by_act : (act : Act) → request.act ≡ act → Some Addressed (OfAreaWith ReadOnly areas)
+    by_act : (act : Act) → request.act ≡ act → SomeAddressed Addressed (OfAreaWith ReadOnly areas)
         → Decided (drop 1 (area_lines station frame areas)) station frame (accept_if_a_read act request)
     by_act Read is s = past (λ w. no_writes is w.0) (accept refl reads)
     by_act WriteOne is s = written (λ e. apart act_place is e (omega arith)) s

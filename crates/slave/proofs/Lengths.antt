@@ -2,13 +2,12 @@
 -- Assumes nothing.
 use mathlib.Core.Path.{◌≡◌, refl, subst, ◌∙◌}
 use mathlib.Core.List.{List}
+use Rattle.std.specs.Prelude.{Option, Some, None}
 use Prim.Native.Nat.{ℕ, ◌≤◌}
 use native.Mathlib.Omega.{arith}
 use lib.ListN.{length}
 use Rattle.frames.specs.declared.Act.{Act}
 use Rattle.frames.specs.declared.Width.{Width}
-use Rattle.frames.specs.declared.Lookup.{Lookup}
-use Rattle.frames.specs.declared.Lookup.TheVariants.{Found, NotInTable}
 use Rattle.frames.specs.Fields.{function_field}
 use Rattle.frames.specs.Functions.{function_of}
 use Rattle.frames.specs.Limits.{quantity, reply_length}
@@ -22,7 +21,7 @@ use Rattle.slave.specs.Deciding.{Reads}
 use Rattle.slave.proofs.Reply.{reply_length_lem}
 use Rattle.slave.proofs.Accepted.{no_line, possible}
 
-pub record Lengths (lookup : Lookup) (frame : List ℕ) (n : ℕ) : Type 0 where
+pub record Lengths (lookup : Option (Act × Width)) (frame : List ℕ) (n : ℕ) : Type 0 where
   pub told : OfFound lookup (λ act width. n ≡ reply_length act width (quantity act frame))
   pub reply : (6 ≤ n) × (n ≤ 165)
   pub request : (8 ≤ length frame) × (length frame ≤ 169)
@@ -34,10 +33,10 @@ module _ (call : Call) (image reply : List ℕ) (n : ℕ)
       Done call.station.own (first_addressed call.station call.frame) call.frame call.image call.reply
       act width n image reply
 
-  lengths : (lookup : Lookup) → function_of (function_field call.frame) ≡ lookup → OfFound lookup IsDone
+  lengths : (lookup : Option (Act × Width)) → function_of (function_field call.frame) ≡ lookup → OfFound lookup IsDone
       → Lengths lookup call.frame n
-  lengths NotInTable is done = absurd done
-  lengths (Found act width) is done =
+  lengths None is done = absurd done
+  lengths (Some (act, width)) is done =
       let count = quantity act call.frame in
       let first = first_addressed call.station call.frame in
       let request : Request = record { act = act; width = width; first = first; count = count } in

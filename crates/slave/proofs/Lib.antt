@@ -3,7 +3,6 @@ pub mod Stable
 pub mod Lines
 mod Run
 pub mod Judging
-mod Requesting
 pub mod Accepted
 pub mod Reply
 mod Acts

@@ -1,13 +1,13 @@
 -- Replies: bytes written over the start of a buffer, then a lent part behind them that is filled, then the check word; and how
 -- many bytes they have.
 -- Assumes nothing.
-use mathlib.Core.Path.{◌≡◌, refl, sym, ap, ap₂, ◌∙◌}
+use mathlib.Core.Path.{◌≡◌, sym, ap, ap₂, ◌∙◌}
 use mathlib.Core.Bool.{Bool}
-use mathlib.Core.List.{List, [], ◌∷◌, ◌++◌, append_assoc, append-nil}
-use Prim.Native.Nat.{ℕ, zero, suc, ◌+◌, ◌-◌, ◌≤◌}
+use mathlib.Core.List.{List, ◌∷◌, ◌++◌, append_assoc, append-nil}
+use Prim.Native.Nat.{ℕ, ◌+◌, ◌-◌, ◌≤◌}
 use native.Mathlib.Omega.{arith}
-use lib.ListN.{length, take, drop, get_or, length-append, length-drop, take-append-drop, drop_of_length-le}
-use lib.Seq.{take_at, drop_at, take_all, drop-cons, drop-drop, length-take-le, sets, sets-eq}
+use lib.ListN.{length, take, drop, length-append, length-drop, take-append-drop, drop_of_length-le}
+use lib.Seq.{take_at, drop_at, take_all, drop-drop, length-take-le}
 use Rattle.promise.proofs.Promise.{attempt_done}
 use Rattle.check_word.specs.CheckWord.{check_word}
 use Rattle.check_word.specs.Frame.{low_first, framed, Right, Put}
@@ -31,18 +31,6 @@ right_framed frame n right long =
     let at : length frame - 2 ≡ n = omega arith in
     ap (λ (word : List ℕ). take n frame ++ word) (sym (rw at at right.ends)) ∙ take-append-drop n frame
 
--- ---- bytes that are copied one by one
-
--- `n` elements of a list from the i-th on
-abbrev pub values : ℕ → ℕ → List ℕ → List ℕ
-values zero i xs = []
-values (suc n) i xs = get_or xs i 0 ∷ values n (suc i) xs
-
-pub values_are : (n i : ℕ) (xs : List ℕ) → i + n ≤ length xs → values n i xs ≡ take n (drop i xs)
-values_are zero i xs h = refl
-values_are (suc n) i xs h =
-    rw (drop-cons xs i 0 (omega arith)) (ap (λ (rest : List ℕ). get_or xs i 0 ∷ rest) (values_are n (suc i) xs (omega arith)))
-
 -- ---- a buffer that starts with a body
 
 module _ (n : ℕ) (body before mid : List ℕ) (laid : mid ≡ body ++ drop n before) (size : length body ≡ n) where
@@ -54,14 +42,6 @@ module _ (n : ℕ) (body before mid : List ℕ) (laid : mid ≡ body ++ drop n b
 
   long_as_before : n ≤ length before → length mid ≡ length before
   long_as_before room = ap length laid ∙ length-append body (drop n before) ∙ omega (arith, length-drop n before)
-
-  -- more is stored behind it
-  pub body_stored : (more : List ℕ) → n + length more ≤ length before
-      → sets mid n more ≡ (body ++ more) ++ drop (n + length more) before
-  body_stored more room =
-      let k = length more in
-      sets-eq more mid n (omega (arith, long_as_before (omega arith)))
-      ∙ ap₂ (λ (b rest : List ℕ). (b ++ more) ++ rest) front (sym (drop-drop k n mid) ∙ ap (drop k) behind ∙ drop-drop k n before)
 
   -- the check word is put behind it
   pub body_framed : (r : Bool) (after : List ℕ) → n + 2 ≤ length before → Put n mid r after → after ≡ over (framed body) before

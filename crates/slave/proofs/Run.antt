@@ -13,7 +13,7 @@ use Rattle.areas.specs.declared.Verdict.TheVariants.{SomeInNoArea, SomeReadOnly,
 use Rattle.frames.specs.declared.Width.{Width}
 use Rattle.frames.specs.declared.Width.TheVariants.{Bit, Word}
 use Rattle.slave.specs.Conditions.{AddressedBy}
-use Rattle.slave.specs.Deciding.{Some, JudgedBy, words_of, words_in}
+use Rattle.slave.specs.Deciding.{SomeAddressed, JudgedBy, words_of, words_in}
 
 -- each word of the run has a bit: its lowest one, or the first of all
 pub words_addressed : (first count : ℕ) → 1 ≤ count → (word : ℕ) → Among (first / word_bits) (words_of first count) word
@@ -28,7 +28,7 @@ words_addressed first count some word h =
 pub addressed_words : (first count word : ℕ) → AddressedBy Bit first count word → Among (first / word_bits) (words_of first count) word
 addressed_words first count word (bit, h, e) = (omega arith, omega arith)
 
-some_of : (A B Such : ℕ → Type 0) → ((word : ℕ) → A word → B word) → Some A Such → Some B Such
+some_of : (A B Such : ℕ → Type 0) → ((word : ℕ) → A word → B word) → SomeAddressed A Such → SomeAddressed B Such
 some_of A B Such to (word, a, such) = (word, to word a, such)
 
 -- a verdict on a run is one on the words that it consists of

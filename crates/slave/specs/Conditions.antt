@@ -1,6 +1,6 @@
 -- What the lines of the answer table ask of a station, its areas and a frame.
 -- Assumes nothing.
-use Rattle.std.specs.Prelude.{◌≡◌, ◌⊎◌, ◌≢◌, List, ℕ, ◌-◌, ◌/◌, ◌<◌, length}
+use Rattle.std.specs.Prelude.{◌≡◌, ◌⊎◌, ◌≢◌, List, Option, Some, None, ℕ, ◌-◌, ◌/◌, ◌<◌, length}
 use Rattle.registers.specs.Memory.{word_bits}
 use Rattle.areas.specs.Holding.{Among}
 use Rattle.areas.specs.Rules.{RulesKept}
@@ -9,8 +9,6 @@ use Rattle.frames.specs.declared.Act.{Act}
 use Rattle.frames.specs.declared.Act.TheVariants.{Read, WriteOne, WriteRun}
 use Rattle.frames.specs.declared.Width.{Width}
 use Rattle.frames.specs.declared.Width.TheVariants.{Bit, Word}
-use Rattle.frames.specs.declared.Lookup.{Lookup}
-use Rattle.frames.specs.declared.Lookup.TheVariants.{Found, NotInTable}
 use Rattle.frames.specs.Fields.{station_field, function_field, start_field, quantity_field, value_field, byte_count_field}
 use Rattle.frames.specs.Functions.{function_of}
 use Rattle.frames.specs.Limits.{quantity, most, bytes_for, request_length, BitValue}
@@ -40,12 +38,12 @@ AnotherStation station frame = (station_field frame ≡ 0) ⊎ (station_field fr
 
 -- the function is not in the table
 abbrev pub NoFunction : List ℕ → Type 0
-NoFunction frame = function_of (function_field frame) ≡ NotInTable
+NoFunction frame = function_of (function_field frame) ≡ None
 
 -- the frame's function is in the table, and `Such` holds of what it does and to what
-abbrev pub OfFound : Lookup → (Act → Width → Type 0) → Type 0
-OfFound (Found act width) Such = Such act width
-OfFound NotInTable Such = ⊥
+abbrev pub OfFound : Option (Act × Width) → (Act → Width → Type 0) → Type 0
+OfFound (Some (act, width)) Such = Such act width
+OfFound None Such = ⊥
 
 abbrev pub OfFunction : List ℕ → (Act → Width → Type 0) → Type 0
 OfFunction frame = OfFound (function_of (function_field frame))

@@ -6,14 +6,14 @@
 mod carry;
 mod decide;
 
-ghost use Rattle.std.specs.Prelude.{◌≡◌, ◌≤◌, min, length, take};
-ghost use Rattle.areas.specs.Calls.{list_entries, listed};
+ghost use Rattle.std.specs.Prelude.{◌≡◌, length};
+ghost use Rattle.areas.specs.Calls.{listed};
 ghost use Rattle.slave.specs.Numbers.{refusal_number, silence_number};
 ghost use Rattle.slave.specs.Answer.{to_send, Respond};
 ghost use Rattle.slave.specs.Words.{RespondToWords};
 ghost use Rattle.slave.specs.Deciding.{FoundOfSome, AnsweredBy};
 
-use areas::{Area, AreaList, Finding, LIST_ENTRIES};
+use areas::{Area, AreaList, LIST_ENTRIES, Verdict};
 use frames::Code;
 
 // The most words of an image.
@@ -23,14 +23,14 @@ pub const MOST_IMAGE_WORDS: usize = 4095;
 pub const LEAST_ROOM: usize = 256;
 
 // How the line counts addresses: MOD-Bus from 0, J-Bus from 1.
-#[derive(Clone, Copy)]
+#[derive(Clone, Copy, Debug, PartialEq, Eq)]
 pub enum Counting {
     ModBus,
     JBus,
 }
 
 // What the station is doing.
-#[derive(Clone, Copy)]
+#[derive(Clone, Copy, Debug, PartialEq, Eq)]
 pub enum State {
     Ready,
     // It answers with exception 4.
@@ -39,7 +39,7 @@ pub enum State {
     AtTheKeyboard,
 }
 
-#[derive(Clone, Copy)]
+#[derive(Clone, Copy, Debug, PartialEq, Eq)]
 pub struct Station {
     // 1 to 255.
     pub own: u8,
@@ -48,7 +48,7 @@ pub struct Station {
 }
 
 // Why a call is refused.
-#[derive(Clone, Copy)]
+#[derive(Clone, Copy, Debug, PartialEq, Eq)]
 pub enum Refusal {
     // 1: own address is 0.
     OwnAddress,
@@ -61,7 +61,7 @@ pub enum Refusal {
 }
 
 // Why a frame is met with silence.
-#[derive(Clone, Copy)]
+#[derive(Clone, Copy, Debug, PartialEq, Eq)]
 pub enum Silence {
     // 10: frame under 4 or over 256 bytes.
     FrameLength,
@@ -77,7 +77,7 @@ pub enum Silence {
     NoQuantity,
 }
 
-#[derive(Clone, Copy)]
+#[derive(Clone, Copy, Debug, PartialEq, Eq)]
 pub enum Outcome {
     Refused(Refusal),
     Silent(Silence),
@@ -129,40 +129,19 @@ pub fn respond_by_value(
 ) -> Outcome
     ensures { Respond station (listed list) frame.now image.old reply.old result image.new reply.new }
 {
-    let entries = list.entries;
-    respond_first(station, entries, used(list.len), frame, image, reply)
-}
-
-// How many of the entries of a list by value are its areas.
-fn used(len: usize) -> usize
-    ensures { result ≡ min len list_entries }
-{
-    if len < LIST_ENTRIES {
-        len
-    } else {
-        LIST_ENTRIES
-    }
-}
-
-// Lends the first `n` of the entries for one call.
-fn respond_first(
-    station: Station,
-    entries: [Area; LIST_ENTRIES],
-    n: usize,
-    frame: &[u8],
-    image: &mut [u16],
-    reply: &mut [u8],
-) -> Outcome
-    requires { n ≤ list_entries }
-    ensures { Respond station (take n entries) frame.now image.old reply.old result image.new reply.new }
-{
-    respond(station, &entries[..n], frame, image, reply)
+    respond(
+        station,
+        &list.entries[..list.len.min(LIST_ENTRIES)],
+        frame,
+        image,
+        reply,
+    )
 }
 
 // Decides, by what was found of the areas, and carries it out.
 fn answer(
     station: Station,
-    finding: Finding,
+    finding: Option<Verdict>,
     frame: &[u8],
     image: &mut [u16],
     reply: &mut [u8],
@@ -179,35 +158,38 @@ pub fn to_send(outcome: Outcome) -> usize
     ensures { result ≡ to_send outcome }
 {
     match outcome {
-        Outcome::Refused(_) => 0,
-        Outcome::Silent(_) => 0,
+        Outcome::Refused(_) | Outcome::Silent(_) => 0,
         Outcome::Exception(_) => frames::EXCEPTION_LENGTH,
         Outcome::Reply(length) => length,
     }
 }
 
 // The number of a refusal.
-pub fn refusal_number(why: Refusal) -> u8
-    ensures { result ≡ refusal_number why }
-{
-    match why {
-        Refusal::OwnAddress => 1,
-        Refusal::Image => 2,
-        Refusal::Areas => 3,
-        Refusal::ReplyBuffer => 4,
+impl From<Refusal> for u8 {
+    ghost from_gives = { λ why n. n ≡ refusal_number why };
+
+    fn from(why: Refusal) -> Self {
+        match why {
+            Refusal::OwnAddress => 1,
+            Refusal::Image => 2,
+            Refusal::Areas => 3,
+            Refusal::ReplyBuffer => 4,
+        }
     }
 }
 
 // The number of a silence.
-pub fn silence_number(why: Silence) -> u8
-    ensures { result ≡ silence_number why }
-{
-    match why {
-        Silence::FrameLength => 10,
-        Silence::CheckWord => 11,
-        Silence::AnotherStation => 12,
-        Silence::AtTheKeyboard => 13,
-        Silence::RequestLength => 14,
-        Silence::NoQuantity => 15,
+impl From<Silence> for u8 {
+    ghost from_gives = { λ why n. n ≡ silence_number why };
+
+    fn from(why: Silence) -> Self {
+        match why {
+            Silence::FrameLength => 10,
+            Silence::CheckWord => 11,
+            Silence::AnotherStation => 12,
+            Silence::AtTheKeyboard => 13,
+            Silence::RequestLength => 14,
+            Silence::NoQuantity => 15,
+        }
     }
 }

@@ -10,6 +10,6 @@ returns c =
     let list = c.args.list in
     -- an array has as many elements as its type says
     let seventeen : length list.entries ≡ list_entries = search rules in
-    let same : take c.used.result list.entries ≡ listed list =
-    ap (λ n. take n list.entries) c.used.ensures ∙ listed_used list seventeen in
-    rw (← same) c.respond_first.ensures
+    let same : take c.min.result list.entries ≡ listed list =
+    ap (λ n. take n list.entries) c.min.ensures ∙ listed_used list seventeen in
+    rw (← same) c.respond.ensures
