@@ -1,154 +1,155 @@
-// The answer to a line: what it asks for is done, and what that answered and left is printed.
-ghost use Rattle.std.specs.Prelude.{◌≤◌};
-
-use crate::ask::{Ask, Kind};
-use crate::cursor::Cursor;
-use crate::make::Made;
-use crate::parse::{Case, MOST_WORDS};
-use crate::sink::Sink;
-use crate::{ask, cut, lent, make, parse};
-use lines::MOST_BYTES;
-use master::Request;
+// What a line asks for is done, and what that answered and left is printed.
+use crate::Output;
+use crate::ask::{Ask, Kind, MOST_WORDS, Room, Slave};
+use crate::lent::{IN_EXCHANGE, Lent, MOST_ROOM};
+use master::{Built, Reading, Request};
+use slave::Outcome;
+use std::io;
+use std::io::Write;
 
 // Answers a line.
-pub(crate) fn answer(line: &[u8], output: &mut [u8], sink: Sink) -> Sink {
-    let ask = ask::read(line);
-    answer_ask(line, ask, output, sink).put(b"\n", output)
-}
-
-// Does what is asked for.
-fn answer_ask(line: &[u8], ask: Ask, output: &mut [u8], sink: Sink) -> Sink {
-    let kind = ask.kind;
-    let next = ask.next;
+pub(crate) fn answer(line: &[u8], output: &mut Output) -> io::Result<()> {
+    let mut room = Room::new();
+    let Some(
+        Ask {
+            kind,
+            mut lent,
+            bytes,
+        },
+    ) = Ask::read(line, &mut room)
+    else {
+        return writeln!(output, "bad line");
+    };
     match kind {
-        Kind::Call => answer_call(line, next, output, sink),
-        Kind::Build(request) => answer_build(line, next, request, output, sink),
-        Kind::Read(request) => answer_read(line, next, request, output, sink),
-        Kind::Exchange(request) => answer_exchange(line, next, request, output, sink),
+        Kind::Call(mut slave) => {
+            respond(&mut slave, bytes, &mut lent, output)?;
+        }
+        Kind::Build(request) => {
+            build(request, bytes, &mut lent, output)?;
+        }
+        Kind::Read(request) => {
+            read(request, bytes, &mut lent, output)?;
+        }
+        Kind::Exchange(request, mut slave) => {
+            exchange(request, bytes, &mut slave, &mut lent, output)?;
+        }
     }
+    writeln!(output)
 }
 
-// Reads what a call of the slave is made with, and makes it.
-fn answer_call(line: &[u8], c: Cursor, output: &mut [u8], sink: Sink) -> Sink {
-    let mut image = [0u16; MOST_WORDS];
-    let mut bytes = [0u8; MOST_BYTES];
-    let case = parse::read(line, c, &mut image, &mut bytes);
-    if !case.good {
-        return sink.put(b"bad line", output);
+// Calls the slave, and gives what it sends.
+fn respond<'a>(
+    slave: &mut Slave<'_>,
+    frame: &[u8],
+    lent: &'a mut Lent<'_>,
+    output: &mut Output,
+) -> io::Result<&'a [u8]> {
+    let before = copy_of(slave.image);
+    let outcome = slave::respond_by_value(
+        slave.station,
+        slave.list,
+        frame,
+        slave.image,
+        lent.bytes,
+    );
+    match outcome {
+        Outcome::Refused(why) => write!(output, "refused {}", slave::refusal_number(why))?,
+        Outcome::Silent(why) => write!(output, "silent {}", slave::silence_number(why))?,
+        Outcome::Exception(code) => write!(output, "exception {}", frames::code_number(code))?,
+        Outcome::Reply(_) => write!(output, "reply")?,
     }
-    let frame = parse::given(&bytes, case.length);
-    let before = image;
-    let n = case.words;
-    make::call(case, frame, &before[0..n], &mut image[0..n], output, sink).sink
+    let sent = lent.put(slave::to_send(outcome), output)?;
+    put_changed(&before, slave.image, output)?;
+    Ok(sent)
 }
 
-// Reads what a request is built with, and builds it.
-fn answer_build(line: &[u8], c: Cursor, request: Request, output: &mut [u8], sink: Sink) -> Sink {
-    let mut bytes = [0u8; MOST_BYTES];
-    let ends = parse::ends(line, c, &mut bytes);
-    if !ends.good {
-        return sink.put(b"bad line", output);
+// The words of an image, in the start of an array.
+fn copy_of(image: &[u16]) -> [u16; MOST_WORDS] {
+    let mut copy = [0; MOST_WORDS];
+    for (to, from) in copy.iter_mut().zip(image) {
+        *to = *from;
     }
-    let data = parse::given(&bytes, ends.length);
-    make::build(request, data, ends.lent, output, sink).sink
+    copy
 }
 
-// Reads the reply, and reads it beside its request.
-fn answer_read(line: &[u8], c: Cursor, request: Request, output: &mut [u8], sink: Sink) -> Sink {
-    let mut bytes = [0u8; MOST_BYTES];
-    let ends = parse::ends(line, c, &mut bytes);
-    if !ends.good {
-        return sink.put(b"bad line", output);
+// Puts the words that are not as they were before, each with its place.
+fn put_changed(before: &[u16], image: &[u16], output: &mut Output) -> io::Result<()> {
+    write!(output, "|")?;
+    let mut some = false;
+    for (place, (before, word)) in before.iter().zip(image).enumerate() {
+        if before != word {
+            let comma = if some { "," } else { "" };
+            write!(output, "{comma}{place} {word}")?;
+            some = true;
+        }
     }
-    let reply = parse::given(&bytes, ends.length);
-    make::read(request, reply, ends.lent, output, sink)
+    Ok(())
 }
 
-// Reads what an exchange is made with, and makes it.
-fn answer_exchange(
-    line: &[u8],
-    c: Cursor,
+// Builds a request, and gives its bytes.
+fn build<'a>(
     request: Request,
-    output: &mut [u8],
-    sink: Sink,
-) -> Sink {
-    let mut image = [0u16; MOST_WORDS];
-    let mut bytes = [0u8; MOST_BYTES];
-    let case = parse::read(line, c, &mut image, &mut bytes);
-    if !case.good {
-        return sink.put(b"bad line", output);
+    data: &[u8],
+    lent: &'a mut Lent<'_>,
+    output: &mut Output,
+) -> io::Result<&'a [u8]> {
+    match master::build(request, data, lent.bytes) {
+        Built::Refused(why) => {
+            write!(output, "refused {}", master::refusal_number(why))?;
+            lent.put(0, output)
+        }
+        Built::Frame(n) => {
+            write!(output, "frame")?;
+            lent.put(n, output)
+        }
     }
-    let data = parse::given(&bytes, case.length);
-    let before = image;
-    let n = case.words;
-    exchange(
-        request,
-        data,
-        case,
-        &before[0..n],
-        &mut image[0..n],
-        output,
-        sink,
-    )
 }
 
-// A request is built. If it is, the slave is called with it.
+// Reads a reply beside its request, and gives its data.
+fn read<'a>(
+    request: Request,
+    reply: &[u8],
+    lent: &'a mut Lent<'_>,
+    output: &mut Output,
+) -> io::Result<&'a [u8]> {
+    match master::read_reply(request, reply, lent.bytes) {
+        Reading::Data(n) => {
+            write!(output, "data")?;
+            return lent.put(n, output);
+        }
+        Reading::Written => write!(output, "written")?,
+        Reading::Exception(code) => write!(output, "exception {}", frames::code_number(code))?,
+        Reading::Refused(why) => write!(output, "refused {}", master::refusal_number(why))?,
+    }
+    lent.put(0, output)
+}
+
+// Builds a request. If that is done, the slave is called with it, and what it sends is read.
 fn exchange(
     request: Request,
     data: &[u8],
-    case: Case,
-    before: &[u16],
-    image: &mut [u16],
-    output: &mut [u8],
-    sink: Sink,
-) -> Sink
-    requires { case.lent.room ≤ 512 }
-{
-    let lent = lent::in_exchange();
-    let built = make::build(request, data, lent, output, sink);
-    if built.written == 0 {
-        return built.sink;
+    slave: &mut Slave<'_>,
+    lent: &mut Lent<'_>,
+    output: &mut Output,
+) -> io::Result<()> {
+    let mut room = [0; MOST_ROOM];
+    let Some(mut built) = Lent::filled(IN_EXCHANGE, &mut room) else {
+        return Ok(());
+    };
+    let frame = build(request, data, &mut built, output)?;
+    if frame.is_empty() {
+        return Ok(());
     }
-    exchange_built(request, built, case, before, image, output)
-}
-
-// The slave is called with what was built. What it sends is read.
-fn exchange_built(
-    request: Request,
-    built: Made,
-    case: Case,
-    before: &[u16],
-    image: &mut [u16],
-    output: &mut [u8],
-) -> Sink
-    requires { case.lent.room ≤ 512 }
-{
-    let frame = built.buffer;
-    let sink = built.sink.put(b"|", output);
-    let called = make::call(
-        case,
-        cut::front(&frame, built.written),
-        before,
-        image,
-        output,
-        sink,
-    );
-    if called.written == 0 {
-        return called.sink;
+    write!(output, "|")?;
+    let reply = respond(slave, frame, lent, output)?;
+    if reply.is_empty() {
+        return Ok(());
     }
-    exchange_sent(request, called, output)
-}
-
-// What the slave sent is read.
-fn exchange_sent(request: Request, called: Made, output: &mut [u8]) -> Sink {
-    let reply = called.buffer;
-    let sink = called.sink.put(b"|", output);
-    let lent = lent::in_exchange();
-    make::read(
-        request,
-        cut::front(&reply, called.written),
-        lent,
-        output,
-        sink,
-    )
+    write!(output, "|")?;
+    let mut room = [0; MOST_ROOM];
+    let Some(mut data) = Lent::filled(IN_EXCHANGE, &mut room) else {
+        return Ok(());
+    };
+    read(request, reply, &mut data, output)?;
+    Ok(())
 }

@@ -1,116 +1,220 @@
 // What a line asks for: a call of the slave, or behind a word something of the master's half.
-use crate::cursor::{Cursor, LARGEST_NUMBER};
+use crate::fields;
+use crate::lent::{Lent, MOST_ROOM};
+use crate::series::Series;
+use areas::{Access, Area, AreaList, LIST_ENTRIES};
+use lines::{Line, MOST_BYTES};
 use master::{Function, Request};
+use slave::{Counting, State, Station};
+use std::str;
 
-#[derive(Clone, Copy)]
-pub(crate) enum Kind {
-    Call,
+// The most characters of a line.
+pub(crate) const LONGEST_LINE: usize = 4096;
+
+// The most words of an image.
+pub(crate) const MOST_WORDS: usize = 8192;
+
+const UNUSED: Area = Area {
+    first: 0,
+    count: 0,
+    access: Access::ReadOnly,
+};
+
+// What the image, the lent buffer and the bytes of a line are read into.
+#[derive(Drop)]
+pub(crate) struct Room {
+    image: [u16; MOST_WORDS],
+    lent: [u8; MOST_ROOM],
+    bytes: [u8; MOST_BYTES],
+}
+
+// The bytes are a frame, the data of a request, or a reply.
+#[derive(Drop)]
+pub(crate) struct Ask<'a> {
+    pub(crate) kind: Kind<'a>,
+    pub(crate) lent: Lent<'a>,
+    pub(crate) bytes: &'a [u8],
+}
+
+#[derive(Drop)]
+pub(crate) enum Kind<'a> {
+    Call(Slave<'a>),
     Build(Request),
     Read(Request),
-    Exchange(Request),
+    Exchange(Request, Slave<'a>),
 }
 
-// The cursor is behind what says it.
-#[derive(Clone, Copy)]
-pub(crate) struct Ask {
-    pub(crate) kind: Kind,
-    pub(crate) next: Cursor,
+#[derive(Drop)]
+pub(crate) struct Slave<'a> {
+    pub(crate) station: Station,
+    pub(crate) list: AreaList,
+    pub(crate) image: &'a mut [u16],
 }
 
-// Parts of a line, each with the cursor behind it.
-#[derive(Clone, Copy)]
-struct RequestPart {
-    request: Request,
-    next: Cursor,
+impl Room {
+    pub(crate) fn new() -> Self {
+        Room {
+            image: [0; MOST_WORDS],
+            lent: [0; MOST_ROOM],
+            bytes: [0; MOST_BYTES],
+        }
+    }
 }
 
-#[derive(Clone, Copy)]
-struct FunctionPart {
-    function: Function,
-    next: Cursor,
+impl<'a> Ask<'a> {
+    // None for a bad line.
+    pub(crate) fn read(line: &[u8], room: &'a mut Room) -> Option<Self> {
+        if LONGEST_LINE < line.len() {
+            return None;
+        }
+        let text = str::from_utf8(line).ok()?;
+        let (kind, rest) = Kind::read(text, &mut room.image)?;
+        let (lent, bytes) = rest.split_once('|')?;
+        Some(Ask {
+            kind,
+            lent: Lent::filled(Series::read(lent)?, &mut room.lent)?,
+            bytes: read_bytes(bytes, &mut room.bytes)?,
+        })
+    }
 }
 
-// Reads the word and the fields of the request, if the line starts so.
-pub(crate) fn read(line: &[u8]) -> Ask {
-    let c = Cursor::behind(line, b"build|");
-    if c.good {
-        let part = request(line, c);
-        let request = part.request;
-        let next = part.next;
-        return Ask {
-            kind: Kind::Build(request),
-            next,
+// Each of these that gives a text too gives what follows the bar behind what it read.
+
+impl<'a> Kind<'a> {
+    fn read<'t>(text: &'t str, room: &'a mut [u16; MOST_WORDS]) -> Option<(Self, &'t str)> {
+        let (word, rest) = text.split_once('|')?;
+        match word {
+            "build" => {
+                let (request, rest) = read_request(rest)?;
+                Some((Kind::Build(request), rest))
+            }
+            "read" => {
+                let (request, rest) = read_request(rest)?;
+                Some((Kind::Read(request), rest))
+            }
+            "exchange" => {
+                let (request, rest) = read_request(rest)?;
+                let (slave, rest) = Slave::read(rest, room)?;
+                Some((Kind::Exchange(request, slave), rest))
+            }
+            _ => {
+                let (slave, rest) = Slave::read(text, room)?;
+                Some((Kind::Call(slave), rest))
+            }
+        }
+    }
+}
+
+impl<'a> Slave<'a> {
+    fn read<'t>(text: &'t str, room: &'a mut [u16; MOST_WORDS]) -> Option<(Self, &'t str)> {
+        let (station, rest) = text.split_once('|')?;
+        let (list, rest) = rest.split_once('|')?;
+        let (image, rest) = rest.split_once('|')?;
+        let slave = Slave {
+            station: read_station(station)?,
+            list: read_list(list)?,
+            image: read_image(image, room)?,
         };
-    }
-    let c = Cursor::behind(line, b"read|");
-    if c.good {
-        let part = request(line, c);
-        let request = part.request;
-        let next = part.next;
-        return Ask {
-            kind: Kind::Read(request),
-            next,
-        };
-    }
-    let c = Cursor::behind(line, b"exchange|");
-    if c.good {
-        let part = request(line, c);
-        let request = part.request;
-        let next = part.next;
-        return Ask {
-            kind: Kind::Exchange(request),
-            next,
-        };
-    }
-    Ask {
-        kind: Kind::Call,
-        next: Cursor::behind(line, b""),
+        Some((slave, rest))
     }
 }
 
-// Reads the fields of a request and their bar.
-fn request(line: &[u8], c: Cursor) -> RequestPart {
-    let c = c.number(line, 255);
-    let station = c.value as u8;
-    let part = function(line, c.letter(line, b" "));
-    let c = part.next;
-    let c = c.letter(line, b" ").number(line, LARGEST_NUMBER);
-    let start = c.value as u16;
-    let c = c.letter(line, b" ").number(line, LARGEST_NUMBER);
-    let operand = c.value as u16;
-    let function = part.function;
-    RequestPart {
-        request: Request {
-            station,
-            function,
-            start,
-            operand,
-        },
-        next: c.letter(line, b"|"),
-    }
+fn read_request(text: &str) -> Option<(Request, &str)> {
+    let (part, rest) = text.split_once('|')?;
+    let (station, part) = part.split_once(' ')?;
+    let (function, start, operand) = fields::three(part)?;
+    let request = Request {
+        station: fields::number(station)?,
+        function: function_of(fields::number(function)?)?,
+        start: fields::number(start)?,
+        operand: fields::number(operand)?,
+    };
+    Some((request, rest))
 }
 
-// Reads the number of a function.
-fn function(line: &[u8], c: Cursor) -> FunctionPart {
-    let c = c.number(line, 255);
-    let function = function_of(c.value);
-    let known = master::function_number(function) as usize == c.value;
-    FunctionPart {
-        function,
-        next: if known { c } else { c.failed() },
-    }
-}
-
-// The function of a number; any for a number that no function has.
-fn function_of(number: usize) -> Function {
+fn function_of(number: u8) -> Option<Function> {
     match number {
-        1 => Function::ReadBits01,
-        2 => Function::ReadBits02,
-        3 => Function::ReadWords03,
-        4 => Function::ReadWords04,
-        5 => Function::WriteBit05,
-        6 => Function::WriteWord06,
-        15 => Function::WriteBits0F,
-        _ => Function::WriteWords10,
+        1 => Some(Function::ReadBits01),
+        2 => Some(Function::ReadBits02),
+        3 => Some(Function::ReadWords03),
+        4 => Some(Function::ReadWords04),
+        5 => Some(Function::WriteBit05),
+        6 => Some(Function::WriteWord06),
+        15 => Some(Function::WriteBits0F),
+        16 => Some(Function::WriteWords10),
+        _ => None,
+    }
+}
+
+fn read_station(text: &str) -> Option<Station> {
+    let (own, counting, state) = fields::three(text)?;
+    Some(Station {
+        own: fields::number(own)?,
+        counting: match counting {
+            "m" => Counting::ModBus,
+            "j" => Counting::JBus,
+            _ => return None,
+        },
+        state: match state {
+            "r" => State::Ready,
+            "n" => State::NotReady,
+            "k" => State::AtTheKeyboard,
+            _ => return None,
+        },
+    })
+}
+
+// Of more than seventeen areas, which is too many, the first seventeen are kept.
+fn read_list(text: &str) -> Option<AreaList> {
+    let mut list = AreaList {
+        entries: [UNUSED; LIST_ENTRIES],
+        len: 0,
+    };
+    if text.is_empty() {
+        return Some(list);
+    }
+    for part in text.split(',') {
+        let area = read_area(part)?;
+        if list.len < LIST_ENTRIES {
+            list.entries[list.len] = area;
+            list.len += 1;
+        }
+    }
+    Some(list)
+}
+
+fn read_area(text: &str) -> Option<Area> {
+    let (first, count, access) = fields::three(text)?;
+    Some(Area {
+        first: fields::number(first)?,
+        count: fields::number(count)?,
+        access: match access {
+            "r" => Access::ReadOnly,
+            "w" => Access::ReadWrite,
+            _ => return None,
+        },
+    })
+}
+
+// Fills the start of the room by a series, and sets the words that the text gives behind it.
+fn read_image<'a>(text: &str, room: &'a mut [u16; MOST_WORDS]) -> Option<&'a mut [u16]> {
+    let mut parts = text.split(',');
+    let series = Series::read(parts.next()?)?;
+    let image = room.get_mut(..series.count)?;
+    for (i, word) in image.iter_mut().enumerate() {
+        *word = series.word(i);
+    }
+    for part in parts {
+        let (place, value) = part.split_once(' ')?;
+        let word = image.get_mut(fields::number::<usize>(place)?)?;
+        *word = fields::number(value)?;
+    }
+    Some(image)
+}
+
+fn read_bytes<'a>(text: &str, room: &'a mut [u8; MOST_BYTES]) -> Option<&'a [u8]> {
+    match lines::read_frame(text.as_bytes(), room) {
+        Line::Frame(n) => room.get(..n),
+        Line::Bad => None,
     }
 }

@@ -1,6 +1,0 @@
--- `main` ends, since each turn counts one down.
--- Assumes nothing.
-use Rattle.cases.proofs.main.Given as goal
-
-abbrev pub decreases-loop-turns : goal.decreases-loop-turns
-decreases-loop-turns l = l.turns
