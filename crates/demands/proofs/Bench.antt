@@ -16,7 +16,7 @@ use Rattle.frames.specs.declared.Act.{Act}
 use Rattle.frames.specs.declared.Act.TheVariants.{Read, WriteOne, WriteRun}
 use Rattle.frames.specs.declared.Width.{Width}
 use Rattle.frames.specs.declared.Width.TheVariants.{Bit, Word}
-use Rattle.std.specs.Prelude.{Option, Some, None}
+use Rattle.std.specs.Prelude.{Some}
 use Rattle.frames.specs.declared.Code.{Code}
 use Rattle.frames.specs.Fields.{number, function_field, start_field, quantity_field, value_field, byte_count_field}
 use Rattle.frames.specs.Functions.{function_of}

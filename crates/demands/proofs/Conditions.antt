@@ -18,7 +18,7 @@ use Rattle.frames.specs.Functions.{function_of}
 use Rattle.frames.specs.Limits.{quantity, most, bytes_for, request_length, on, off}
 use Rattle.slave.specs.declared.Station.{Station}
 use Rattle.slave.specs.Conditions.{AnotherStation, OfFound, OfFunction, WrongLength, QuantityZero, OutOfLimits, Writes, first_addressed, NamesNothing, AddressedBy, SomeAddressedWord}
-use Rattle.slave.specs.Deciding.{Some}
+use Rattle.slave.specs.Deciding.{SomeAddressed}
 use Rattle.demands.proofs.Decidable.{dec_or, dec_act, dec_bit, dec_j_bus}
 
 -- ---- the fields
@@ -60,7 +60,7 @@ dec_names_nothing station frame = Dec.and (dec_j_bus station.counting) (ℕ_disc
 -- ---- the addressed words
 
 dec_some : (width : Width) (first count : ℕ) (Such : ℕ → Type 0) → ((word : ℕ) → Dec (Such word))
-    → Dec (Some (AddressedBy width first count) Such)
+    → Dec (SomeAddressed (AddressedBy width first count) Such)
 dec_some Bit first count Such told =
     map_dec (λ (bit, among, such). (bit / word_bits, (bit, among, refl), such))
     (λ (word, (bit, among, e), such). (bit, among, rw e such))

@@ -101,7 +101,7 @@ module _ (call : Call) (other : List ℕ) (a b : Answer) (here : Answers call a)
   pub agree_on_words : AgreeOnWords call other → SameReply a b
   agree_on_words agree = alike_by (λ width accepted does. run_over width (same_element agree width does))
 
-  same_bit : AgreeOnBits call other → (width : Width) → Some (Read, Bit) ≡ Some (Read, width)
+  same_bit : AgreeOnBits call other → (width : Width) → ◌≡◌ {A = Option (Act × Width)} (Some (Read, Bit)) (Some (Read, width))
       → (n : ℕ) → n < quantity_field call.frame
       → element width call.image (first_of call + n) ≡ element width other (first_of call + n)
   same_bit agree Bit e n h = agree (first_of call + n) (omega arith, omega arith)

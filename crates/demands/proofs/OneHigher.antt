@@ -10,7 +10,7 @@ use Rattle.check_word.specs.Frame.{framed, Right}
 use Rattle.frames.specs.declared.Act.{Act}
 use Rattle.frames.specs.declared.Act.TheVariants.{Read, WriteOne, WriteRun}
 use Rattle.frames.specs.declared.Width.{Width}
-use Rattle.std.specs.Prelude.{Option, Some, None}
+use Rattle.std.specs.Prelude.{Some}
 use Rattle.frames.specs.Fields.{byte, up_to_quantity}
 use Rattle.frames.specs.Functions.{function_of}
 use Rattle.frames.specs.Limits.{bytes_for, request_length, reply_length}

@@ -17,7 +17,7 @@ use Rattle.areas.specs.declared.Verdict.TheVariants.{SomeInNoArea, SomeReadOnly}
 use Rattle.areas.proofs.Witnesses as areas-of
 use Rattle.frames.specs.declared.Act.TheVariants.{Read, WriteOne, WriteRun}
 use Rattle.frames.specs.declared.Width.TheVariants.{Bit, Word}
-use Rattle.std.specs.Prelude.{Option, Some, None}
+use Rattle.std.specs.Prelude.{Some}
 use Rattle.frames.specs.declared.Code.TheVariants as Code
 use Rattle.frames.specs.Fields.{number}
 use Rattle.frames.specs.Functions.{function_of}
