@@ -15,7 +15,7 @@ use Rattle.slave.specs.Answer.{to_send}
 use Rattle.slave.proofs.Laws as slave-laws
 use Rattle.master.specs.declared.Refusal as Unread
 use Rattle.std.specs.Prelude.{Result, Ok, Err}
-use Rattle.master.specs.declared.Refusal.{Refusal}
+use Rattle.master.specs.declared.Refusal.{Refusal as Unread}
 use Rattle.master.specs.declared.Reading.{Reading}
 use Rattle.master.specs.Refusals as master
 use Rattle.master.proofs.Laws as master-laws
@@ -80,13 +80,13 @@ outcomes_apart (Outcome.Reply a) (Outcome.Silent b) small-a small_b e = absurd (
 outcomes_apart (Outcome.Reply a) (Outcome.Exception b) small-a small_b e = absurd (apart 3 2 _ _ small-a (code_small b) (λ h. omega (arith, h)) e)
 outcomes_apart (Outcome.Reply a) (Outcome.Reply b) small-a small_b e = ap Outcome.Reply (same_number 3 _ _ e)
 
-pub built_apart : (a b : Result ℕ Refusal) → bytes_built a ≤ most_number → bytes_built b ≤ most_number → built_result a ≡ built_result b → a ≡ b
+pub built_apart : (a b : Result ℕ Unread) → bytes_built a ≤ most_number → bytes_built b ≤ most_number → built_result a ≡ built_result b → a ≡ b
 built_apart (Err a) (Err b) small-a small_b e = ap Err (master-laws.RefusalsApart a b (same_number 0 _ _ e))
 built_apart (Err a) (Ok b) small-a small_b e = absurd (apart 0 5 _ _ (unread_small a) small_b (λ h. omega (arith, h)) e)
 built_apart (Ok a) (Err b) small-a small_b e = absurd (apart 5 0 _ _ small-a (unread_small b) (λ h. omega (arith, h)) e)
 built_apart (Ok a) (Ok b) small-a small_b e = ap Ok (same_number 5 _ _ e)
 
-pub readings_apart : (a b : Result Reading Refusal) → bytes_read a ≤ most_number → bytes_read b ≤ most_number → reading_result a ≡ reading_result b → a ≡ b
+pub readings_apart : (a b : Result Reading Unread) → bytes_read a ≤ most_number → bytes_read b ≤ most_number → reading_result a ≡ reading_result b → a ≡ b
 readings_apart (Err a) (Err b) small-a small_b e = ap Err (master-laws.RefusalsApart a b (same_number 0 _ _ e))
 readings_apart (Err a) (Ok (Reading.Data b)) small-a small_b e = absurd (apart 0 6 _ _ (unread_small a) small_b (λ h. omega (arith, h)) e)
 readings_apart (Err a) (Ok Reading.Written) small-a small_b e = absurd (apart 0 7 _ 0 (unread_small a) (omega arith) (λ h. omega (arith, h)) e)

@@ -5,12 +5,12 @@ use Rattle.areas.proofs.Words.{stands}
 use Rattle.montrakit.proofs.Fitting.{outcome_fits}
 use Rattle.montrakit.proofs.montrakit_respond.Goals as goal
 
-pub returns-in_default-doing : goal.returns-in_default-doing
-returns-in_default-doing c =
+pub returns-in_default-state : goal.returns-in_default-state
+returns-in_default-state c =
     inl record {
       number = 2;
-      first = inr (λ nothing. nothing c.in-Names.counting c.in-Names.ensures, inl (c.in_default-doing.ensures, refl));
-      told_as = c.bad_argument-in_default-doing.ensures;
+      first = inr (λ nothing. nothing c.in-Some.counting c.in-Some.ensures, inl (c.in_default-state.ensures, refl));
+      told_as = c.bad_argument-in_default-state.ensures;
       image_kept = refl;
       reply_kept = refl;
     }
@@ -25,7 +25,7 @@ returns c =
     let (areas, stand) = stands c.args.areas.now (length c.args.image.now) in
     inr record {
       station = _;
-      settings = record { address = refl; counts = c.in-Names.ensures; does = c.in-Names-doing.ensures };
+      settings = record { address = refl; counts = c.in-Some.ensures; does = c.in-Some-state.ensures };
       areas = areas;
       meant = stand;
       outcome = c.respond_to_words-outcome.result;
