@@ -88,8 +88,8 @@ pub fn write_outcome(outcome: Outcome, reply: &[u8], text: &mut [u8]) -> Option<
     ensures { Written (as_line (outcome_text outcome reply.now)) text.old result text.new }
 {
     match outcome {
-        Outcome::Refused(why) => place::write_number(b"refused", slave::refusal_number(why), text),
-        Outcome::Silent(why) => place::write_number(b"silent", slave::silence_number(why), text),
+        Outcome::Refused(why) => place::write_number(b"refused", u8::from(why), text),
+        Outcome::Silent(why) => place::write_number(b"silent", u8::from(why), text),
         Outcome::Exception(_) => place::write_reply(reply, frames::EXCEPTION_LENGTH, text),
         Outcome::Reply(n) => place::write_reply(reply, n, text),
     }

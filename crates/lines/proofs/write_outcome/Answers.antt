@@ -5,11 +5,11 @@ use Rattle.lines.proofs.write_outcome.Goals as goal
 
 pub returns-in-Refused : goal.returns-in-Refused
 unfolding outcome_text
-returns-in-Refused c = rw c.in-Refused.is (rw c.refusal_number.ensures at c.write_number.ensures)
+returns-in-Refused c = rw c.in-Refused.is (rw c.from.ensures at c.write_number.ensures)
 
 pub returns-in-Silent : goal.returns-in-Silent
 unfolding outcome_text
-returns-in-Silent c = rw c.in-Silent.is (rw c.silence_number.ensures at c.write_number-in-Silent.ensures)
+returns-in-Silent c = rw c.in-Silent.is (rw c.from-in-Silent.ensures at c.write_number-in-Silent.ensures)
 
 pub returns-in-Exception : goal.returns-in-Exception
 unfolding outcome_text
