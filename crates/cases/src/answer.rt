@@ -1,7 +1,7 @@
 // What a line asks for is done, and what that answered and left is printed.
 use crate::Output;
 use crate::ask::{Ask, Kind, MOST_WORDS, Room, Slave};
-use crate::lent::{IN_EXCHANGE, Lent, MOST_ROOM};
+use crate::lent::{IN_EXCHANGE, Lent};
 use master::{Built, Reading, Request};
 use slave::Outcome;
 use std::io;
@@ -132,11 +132,9 @@ fn exchange(
     lent: &mut Lent<'_>,
     output: &mut Output,
 ) -> io::Result<()> {
-    let mut room = [0; MOST_ROOM];
-    let Some(mut built) = Lent::filled(IN_EXCHANGE, &mut room) else {
-        return Ok(());
-    };
-    let frame = build(request, data, &mut built, output)?;
+    let mut room = [0; master::LEAST_ROOM];
+    let mut to_build_in = Lent::filled(&mut room, IN_EXCHANGE);
+    let frame = build(request, data, &mut to_build_in, output)?;
     if frame.is_empty() {
         return Ok(());
     }
@@ -146,10 +144,8 @@ fn exchange(
         return Ok(());
     }
     write!(output, "|")?;
-    let mut room = [0; MOST_ROOM];
-    let Some(mut data) = Lent::filled(IN_EXCHANGE, &mut room) else {
-        return Ok(());
-    };
-    read(request, reply, &mut data, output)?;
+    let mut room = [0; master::LEAST_ROOM];
+    let mut to_read_into = Lent::filled(&mut room, IN_EXCHANGE);
+    read(request, reply, &mut to_read_into, output)?;
     Ok(())
 }

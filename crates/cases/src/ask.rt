@@ -72,13 +72,13 @@ impl<'a> Ask<'a> {
         let (lent, bytes) = rest.split_once('|')?;
         Some(Ask {
             kind,
-            lent: Lent::filled(Series::read(lent)?, &mut room.lent)?,
+            lent: Lent::read(lent, &mut room.lent)?,
             bytes: read_bytes(bytes, &mut room.bytes)?,
         })
     }
 }
 
-// Each of these that gives a text too gives what follows the bar behind what it read.
+// Where a text is given back too, it is what follows the bar behind what was read.
 
 impl<'a> Kind<'a> {
     fn read<'t>(text: &'t str, room: &'a mut [u16; MOST_WORDS]) -> Option<(Self, &'t str)> {

@@ -1,4 +1,4 @@
-// A lent buffer, and what it was filled with before it was lent.
+// A lent buffer, and its background, which it was filled with.
 use crate::Output;
 use crate::series::Series;
 use std::io::Write;
@@ -21,13 +21,18 @@ pub(crate) struct Lent<'a> {
 }
 
 impl<'a> Lent<'a> {
-    // The start of the room, filled. None if the room is too small.
-    pub(crate) fn filled(background: Series, room: &'a mut [u8; MOST_ROOM]) -> Option<Self> {
+    // Reads the series of a background. None if the room has not as many bytes.
+    pub(crate) fn read(text: &str, room: &'a mut [u8; MOST_ROOM]) -> Option<Self> {
+        let background = Series::read(text)?;
         let bytes = room.get_mut(..background.count)?;
+        Some(Lent::filled(bytes, background))
+    }
+
+    pub(crate) fn filled(bytes: &'a mut [u8], background: Series) -> Self {
         for (i, byte) in bytes.iter_mut().enumerate() {
             *byte = background.byte(i);
         }
-        Some(Lent { bytes, background })
+        Lent { bytes, background }
     }
 
     // Puts the first bytes, which were written, and whether those beyond have their background still. Gives the bytes.

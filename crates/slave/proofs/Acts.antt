@@ -2,75 +2,30 @@
 -- Assumes nothing.
 use mathlib.Core.Path.{◌≡◌, refl, sym, ap, ◌∙◌}
 use mathlib.Core.List.{List, ◌∷◌}
-use Prim.Native.Nat.{ℕ, ◌+◌, ◌*◌, ◌-◌, ◌≤◌}
+use Prim.Native.Nat.{ℕ, ◌+◌, ◌-◌}
 use native.Mathlib.Omega.{arith}
-use lib.ListN.{length, take, drop, length-take, length-drop}
+use lib.ListN.{length, take, drop}
 use Rattle.check_word.specs.Frame.{framed}
-use Rattle.frames.specs.declared.Act.{Act}
 use Rattle.frames.specs.declared.Act.TheVariants.{Read, WriteOne, WriteRun}
-use Rattle.frames.specs.declared.Width.{Width}
-use Rattle.frames.specs.declared.Width.TheVariants.{Bit, Word}
 use Rattle.frames.specs.Fields.{function_field, quantity_field, value_field, byte_count_field, data_field, up_to_quantity}
-use Rattle.frames.specs.Limits.{most_of_a_run, most, bytes_for, reply_length}
+use Rattle.frames.specs.Limits.{bytes_for, reply_length}
 use Rattle.slave.specs.declared.decide.Request.{Request}
-use Rattle.slave.specs.Conditions.{least_room}
 use Rattle.slave.specs.Answer.{StoredOne, StoredRun, over, ReplyTo, ImageAfter, Done}
-use Rattle.slave.specs.Carrying.{Inside, ReadWritten, Possible}
+use Rattle.slave.specs.Carrying.{ReadWritten, Possible}
 use Rattle.slave.proofs.Reply.{reply_length_lem}
 
 -- the part of a frame that is lent to be stored: what stands between byte count and check word
 abbrev lent_bytes : List ℕ → List ℕ
 lent_bytes frame = take (length frame - 2 - 7) (drop 7 frame)
 
-most_have_room : (width : Width) (count : ℕ) → count ≤ most_of_a_run width → 5 + bytes_for width count ≤ least_room
-most_have_room Bit count h = omega arith
-most_have_room Word count h = omega arith
-
--- a byte takes at most eight of what is addressed
-pub eight_to_a_byte : (width : Width) (count : ℕ) → count ≤ 8 * bytes_for width count
-eight_to_a_byte Bit count = omega arith
-eight_to_a_byte Word count = omega arith
-
-most_at_most_256 : (act : Act) (width : Width) → most act width ≤ 256
-most_at_most_256 Read Bit = omega arith
-most_at_most_256 Read Word = omega arith
-most_at_most_256 WriteOne width = omega arith
-most_at_most_256 WriteRun Bit = omega arith
-most_at_most_256 WriteRun Word = omega arith
-
 module _ {frame : List ℕ} {words room : ℕ} {request : Request} (possible : Possible frame words room request) where
-  -- ---- needs
-
-  pub read_has_room : request.act ≡ Read → 5 + bytes_for request.width request.count ≤ least_room
-  read_has_room act = most_have_room request.width request.count (rw act at possible.at_most)
-
-  pub read_long : request.act ≡ Read → length frame ≡ 8
-  read_long act = rw act at possible.long
-
-  pub at_most_256 : request.count ≤ 256
-  at_most_256 = omega (arith, possible.at_most, most_at_most_256 request.act request.width)
-
-  pub one_inside : request.act ≡ WriteOne → Inside request.width words request.first 1
-  one_inside act = rw (rw act at possible.count_read) at possible.inside
-
-  pub one_long : request.act ≡ WriteOne → length frame ≡ 8
-  one_long act = rw act at possible.long
-
   run_counted : request.act ≡ WriteRun → length frame ≡ 9 + byte_count_field frame
   run_counted act = rw act at possible.long
-
-  pub run_long : request.act ≡ WriteRun → length frame ≡ 9 + bytes_for request.width request.count
-  run_long act = omega (arith, run_counted act, possible.byte_count act)
-
-  pub run_has_bytes : request.act ≡ WriteRun → bytes_for request.width request.count ≤ length (lent_bytes frame)
-  run_has_bytes act = simp (length-take, length-drop) (omega (arith, run_long act))
 
   run_data_lem : request.act ≡ WriteRun → lent_bytes frame ≡ data_field frame
   run_data_lem act =
       let count : length frame - 2 - 7 ≡ byte_count_field frame = omega (arith, run_counted act) in
       ap (λ (n : ℕ). take n (drop 7 frame)) count
-
-  -- ---- done
 
   module _ (own : ℕ) (image reply : List ℕ) (n : ℕ) (image_after reply_after : List ℕ)
       (told : n ≡ reply_length request.act request.width request.count) where
