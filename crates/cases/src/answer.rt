@@ -2,7 +2,7 @@
 use crate::Output;
 use crate::ask::{Ask, Kind, MOST_WORDS, Room, Slave};
 use crate::lent::{IN_EXCHANGE, Lent};
-use master::{Built, Reading, Request};
+use master::{Reading, Request};
 use slave::Outcome;
 use std::io;
 use std::io::Write;
@@ -53,9 +53,9 @@ fn respond<'a>(
         lent.bytes,
     );
     match outcome {
-        Outcome::Refused(why) => write!(output, "refused {}", slave::refusal_number(why))?,
-        Outcome::Silent(why) => write!(output, "silent {}", slave::silence_number(why))?,
-        Outcome::Exception(code) => write!(output, "exception {}", frames::code_number(code))?,
+        Outcome::Refused(why) => write!(output, "refused {}", u8::from(why))?,
+        Outcome::Silent(why) => write!(output, "silent {}", u8::from(why))?,
+        Outcome::Exception(code) => write!(output, "exception {}", u8::from(code))?,
         Outcome::Reply(_) => write!(output, "reply")?,
     }
     let sent = lent.put(slave::to_send(outcome), output)?;
@@ -94,11 +94,11 @@ fn build<'a>(
     output: &mut Output,
 ) -> io::Result<&'a [u8]> {
     match master::build(request, data, lent.bytes) {
-        Built::Refused(why) => {
-            write!(output, "refused {}", master::refusal_number(why))?;
+        Err(why) => {
+            write!(output, "refused {}", u8::from(why))?;
             lent.put(0, output)
         }
-        Built::Frame(n) => {
+        Ok(n) => {
             write!(output, "frame")?;
             lent.put(n, output)
         }
@@ -113,13 +113,13 @@ fn read<'a>(
     output: &mut Output,
 ) -> io::Result<&'a [u8]> {
     match master::read_reply(request, reply, lent.bytes) {
-        Reading::Data(n) => {
+        Ok(Reading::Data(n)) => {
             write!(output, "data")?;
             return lent.put(n, output);
         }
-        Reading::Written => write!(output, "written")?,
-        Reading::Exception(code) => write!(output, "exception {}", frames::code_number(code))?,
-        Reading::Refused(why) => write!(output, "refused {}", master::refusal_number(why))?,
+        Ok(Reading::Written) => write!(output, "written")?,
+        Ok(Reading::Exception(code)) => write!(output, "exception {}", u8::from(code))?,
+        Err(why) => write!(output, "refused {}", u8::from(why))?,
     }
     lent.put(0, output)
 }

@@ -3,7 +3,7 @@ use crate::fields;
 use crate::lent::{Lent, MOST_ROOM};
 use crate::series::Series;
 use areas::{Access, Area, AreaList, LIST_ENTRIES};
-use lines::{Line, MOST_BYTES};
+use lines::MOST_BYTES;
 use master::{Function, Request};
 use slave::{Counting, State, Station};
 use std::str;
@@ -125,25 +125,11 @@ fn read_request(text: &str) -> Option<(Request, &str)> {
     let (function, start, operand) = fields::three(part)?;
     let request = Request {
         station: fields::number(station)?,
-        function: function_of(fields::number(function)?)?,
+        function: Function::try_from(fields::number::<u8>(function)?).ok()?,
         start: fields::number(start)?,
         operand: fields::number(operand)?,
     };
     Some((request, rest))
-}
-
-fn function_of(number: u8) -> Option<Function> {
-    match number {
-        1 => Some(Function::ReadBits01),
-        2 => Some(Function::ReadBits02),
-        3 => Some(Function::ReadWords03),
-        4 => Some(Function::ReadWords04),
-        5 => Some(Function::WriteBit05),
-        6 => Some(Function::WriteWord06),
-        15 => Some(Function::WriteBits0F),
-        16 => Some(Function::WriteWords10),
-        _ => None,
-    }
 }
 
 fn read_station(text: &str) -> Option<Station> {
@@ -213,8 +199,6 @@ fn read_image<'a>(text: &str, room: &'a mut [u16; MOST_WORDS]) -> Option<&'a mut
 }
 
 fn read_bytes<'a>(text: &str, room: &'a mut [u8; MOST_BYTES]) -> Option<&'a [u8]> {
-    match lines::read_frame(text.as_bytes(), room) {
-        Line::Frame(n) => room.get(..n),
-        Line::Bad => None,
-    }
+    let n = lines::read_frame(text.as_bytes(), room)?;
+    room.get(..n)
 }
