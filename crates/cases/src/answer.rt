@@ -1,7 +1,7 @@
 // What a line asks for is done, and what that answered and left is printed.
-use crate::Output;
 use crate::ask::{Ask, Kind, MOST_WORDS, Room, Slave};
 use crate::lent::{IN_EXCHANGE, Lent};
+use crate::output::Output;
 use master::{Reading, Request};
 use slave::Outcome;
 use std::io;

@@ -1,5 +1,5 @@
 // A lent buffer, and its background, which it was filled with.
-use crate::Output;
+use crate::output::Output;
 use crate::series::Series;
 use std::io::Write;
 use std::{fmt, io};

@@ -7,16 +7,16 @@ mod ask;
 mod begun;
 mod fields;
 mod lent;
+mod output;
 mod series;
 
 use begun::Begun;
+use output::Output;
 use std::io;
-use std::io::{BufWriter, Read, Stdout, Write};
+use std::io::{Read, Write};
 
-// The characters of a block of input, and of the output that waits.
+// The characters of a block of input.
 const BLOCK_ROOM: usize = 65536;
-
-type Output = BufWriter<Stdout>;
 
 // A failed read or write ends the program without a word.
 fn main(rt: HostRuntime) {
@@ -27,7 +27,7 @@ fn main(rt: HostRuntime) {
 // many blocks as are counted.
 fn run(rt: &HostRuntime) -> io::Result<()> {
     let mut stdin = rt.stdin();
-    let mut output = BufWriter::with_capacity(rt.alloc(), BLOCK_ROOM, rt.stdout())?;
+    let mut output = Output::new(rt.stdout());
     let mut line = Begun::new();
     let mut block = [0u8; BLOCK_ROOM];
     for _ in 0..u64::MAX {
