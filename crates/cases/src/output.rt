@@ -1,5 +1,5 @@
 // Output by way of a buffer: what is written waits in its start until it goes out together.
-ghost use Rattle.std.specs.Prelude.{◌≤◌, length};
+ghost use Rattle.std.specs.Prelude.{◌≤◌};
 
 use std::io;
 use std::io::{Stdout, Write};
@@ -12,7 +12,7 @@ pub(crate) struct Output {
     stdout: Stdout,
     text: [u8; ROOM],
     waiting: usize,
-    ghost within: { waiting ≤ length text },
+    ghost within: { waiting ≤ 65536 },
 }
 
 impl Output {
@@ -27,10 +27,10 @@ impl Output {
 
 impl Write for Output {
     fn write(&mut self, bytes: &[u8]) -> io::Result<usize> {
-        if self.text.len() - self.waiting < bytes.len() {
+        if ROOM - self.waiting < bytes.len() {
             self.flush()?;
         }
-        if self.text.len() - self.waiting < bytes.len() {
+        if ROOM - self.waiting < bytes.len() {
             return self.stdout.write(bytes);
         }
         let end = self.waiting + bytes.len();
