@@ -12,7 +12,6 @@ use Rattle.frames.specs.Exceptions.{exception_length}
 use Rattle.master.specs.declared.Request.{Request}
 use Rattle.master.specs.declared.Reading.{Reading}
 use Rattle.std.specs.Prelude.{Result, Ok, Err}
-use Rattle.master.specs.declared.Reading.TheVariants.{Data, Written, Exception}
 use Rattle.master.specs.declared.Refusal.{Refusal}
 use Rattle.master.specs.Refusals.{RefusedBy, FieldsRefused}
 use Rattle.master.specs.Reading.{ToldBy}

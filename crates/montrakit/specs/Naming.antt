@@ -8,9 +8,7 @@ use Rattle.master.specs.declared.Function.{Function}
 use Rattle.master.specs.declared.Request.{Request}
 use Rattle.master.specs.Requests.{function_number}
 use Rattle.montrakit.specs.declared.telling.Kind.{Kind}
-use Rattle.montrakit.specs.declared.telling.Kind.TheVariants as Kind
 use Rattle.montrakit.specs.declared.telling.BadArgument.{BadArgument}
-use Rattle.montrakit.specs.declared.telling.BadArgument.TheVariants as BadArgument
 use Rattle.montrakit.specs.Meanings.{counting_byte, state_byte}
 use Rattle.montrakit.specs.Mastering.{request_of}
 use Rattle.montrakit.specs.Results.{refused, silent, exception, reply, bad_argument, built, values, written}

@@ -6,7 +6,6 @@ use Rattle.slave.specs.declared.Outcome.{Outcome}
 use Rattle.slave.specs.Numbers as slave
 use Rattle.master.specs.declared.Reading.{Reading}
 use Rattle.master.specs.declared.Refusal.{Refusal}
-use Rattle.master.specs.declared.Refusal.TheVariants as Refusal
 use Rattle.master.specs.Refusals as master
 
 abbrev pub result : ℕ → ℕ → ℕ
