@@ -2,7 +2,6 @@
 -- the parameters as the call leaves them. Nothing uses this; it is there to be checked.
 -- Assumes nothing.
 use mathlib.Core.Path.{◌≡◌}
-use Rattle.std.proofs.Common.{OnSome}
 use Rattle.bench.specs.Bench.{registers_at_first, Stands}
 use Rattle.bench.specs.Input.{LastAnswered}
 use Rattle.bench.specs.Blocks.{BlockPassed}
@@ -14,8 +13,8 @@ begins_so : (κs : _) (a : _) (r : _) (s : _) → registers-at-first.Post κs a 
 begins_so κs a r s p = p
 
 passes_blocks : (κs : _) (a : _) (r : _) (s : _) → answer-block.Post κs a r s
-    → OnSome r (BlockPassed a.1.1.0.now a.0.now.line a.0.now.held a.0.now.image s.0.now.line s.0.now.held s.0.now.image)
-passes_blocks κs a r s p = p
+    → BlockPassed a.1.0.now a.1.1.0.now a.1.1.1.0 a.1.1.1.1.0.now s.1.1.0.now s.1.1.1.1.0.now r
+passes_blocks κs a r s p = p.1
 
 ends_so : (κs : _) (a : _) (r : _) (s : _) → answer-last.Post κs a r s
     → Stands (LastAnswered a.0.now a.1.0.now s.1.0.now) a.1.1.0.now r s.1.1.0.now

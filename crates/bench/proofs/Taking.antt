@@ -54,6 +54,9 @@ module _ (block line line_after : List ℕ) (held : ℕ) (taken : Taken) (took :
   same_size : length line_after ≡ length line
   same_size = ap length took.stands ∙ over_longer (heldThen held block line) line size
 
+  pub held_within : taken.held ≤ length line
+  held_within = omega (arith, took.told, size)
+
   -- the buffer holds the line as far as it goes
   held_start : (begun : List ℕ) → Holds line held begun
       → take taken.held line_after ≡ take (length line) (begun ++ up_to_feed block)

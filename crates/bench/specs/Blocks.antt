@@ -1,7 +1,7 @@
 -- How the lines of an input are answered block by block, for the contracts of private functions alone. The line that a block has begun
 -- is held in a buffer, as far as the buffer goes.
 -- Assumes nothing.
-use Rattle.std.specs.Prelude.{◌≡◌, List, ◌++◌, ℕ, ◌≤◌, ◌<◌, length, take}
+use Rattle.std.specs.Prelude.{◌≡◌, Option, Some, None, List, ◌++◌, ℕ, ◌≤◌, ◌<◌, length, take}
 use Rattle.bench.specs.declared.answer.Progress.{Progress}
 use Rattle.bench.specs.Bench.{Stands}
 use Rattle.bench.specs.Input.{Unfed, Cut, AllAnswered}
@@ -22,17 +22,24 @@ Passed came buffer held image buffer_after held_after image_after answers =
 
 -- what was answered of a block: the characters that are used up, and their answers in the start of a text
 pub record Progressed (block buffer : List ℕ) (held : ℕ) (image text : List ℕ) (done : Progress)
-    (buffer_after : List ℕ) (held_after : ℕ) (image_after text_after : List ℕ)
+    (buffer_after image_after text_after : List ℕ)
     : Type 0 where
   pub used_within : done.used ≤ length block
-  pub answered : Stands (Passed (take done.used block) buffer held image buffer_after held_after image_after)
+  pub held_within : done.held ≤ length buffer
+  pub answered : Stands (Passed (take done.used block) buffer held image buffer_after done.held image_after)
       text done.written text_after
 
 -- it moves on
 abbrev pub Moves : List ℕ → Progress → Type 0
 Moves block done = 0 < length block → 0 < done.used
 
--- the whole of a block has passed
-abbrev pub BlockPassed : (block buffer : List ℕ) (held : ℕ) (image buffer_after : List ℕ) (held_after : ℕ) (image_after : List ℕ) → Type 0
-BlockPassed block buffer held image buffer_after held_after image_after =
-    (answers : List ℕ) × Passed block buffer held image buffer_after held_after image_after answers
+-- what is held of the next line lies inside its buffer
+abbrev pub HeldWithin : ℕ → Option ℕ → Type 0
+HeldWithin size (Some n) = n ≤ size
+HeldWithin size None = Unit
+
+-- the whole of a block has passed, unless the output has ended
+unfoldable pub BlockPassed : (block buffer : List ℕ) (held : ℕ) (image buffer_after image_after : List ℕ) → Option ℕ → Type 0
+BlockPassed block buffer held image buffer_after image_after (Some n) =
+    (answers : List ℕ) × Passed block buffer held image buffer_after n image_after answers
+BlockPassed block buffer held image buffer_after image_after None = Unit

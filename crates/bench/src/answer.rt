@@ -2,6 +2,7 @@
 ghost use Rattle.std.specs.Prelude.{◌≡◌, ◌≤◌, ◌<◌, length};
 ghost use Rattle.areas.specs.Calls.{listed};
 ghost use Rattle.slave.specs.Examples.{areas as Examples·areas};
+ghost use Rattle.lines.specs.Hex.{longest_line};
 ghost use Rattle.bench.specs.Input.{LastAnswered};
 ghost use Rattle.bench.specs.Blocks.{Progressed, Moves};
 ghost use Rattle.bench.specs.Bench.{registers_at_first, FrameAnswered, Answered, longest_answer, Stands};
@@ -12,23 +13,12 @@ use slave::{Counting, State, Station};
 // The most characters of an answer.
 const LONGEST_ANSWER: usize = 501;
 
-// One more than the longest line that says a frame, so that a longer one is seen to be longer.
-const LINE_ROOM: usize = lines::LONGEST_LINE + 1;
-
-// What stays from block to block: the registers, and the line that has begun, whose characters stand in the start of `line`, as far
-// as it goes.
-#[derive(Drop)]
-pub(crate) struct Session {
-    pub image: [u16; 16],
-    pub line: [u8; LINE_ROOM],
-    pub held: usize,
-    ghost within: { held ≤ length line },
-}
-
-// How far a block is answered: so many of its bytes are used up, and so many characters of the text are written.
+// How far a block is answered: so many of its bytes are used up, so many characters of the next line are held, and so many
+// characters of the text are written.
 #[derive(Clone, Copy, Debug, PartialEq, Eq)]
 pub(crate) struct Progress {
     pub used: usize,
+    pub held: usize,
     pub written: usize,
 }
 
@@ -103,54 +93,61 @@ pub(crate) fn answer_last(line: &[u8], image: &mut [u16], text: &mut [u8]) -> us
     answer(line, image, text)
 }
 
-impl Session {
-    // The session before the first line.
-    pub(crate) fn new() -> Session
-        ensures image { result.image ≡ registers_at_first }
-        ensures held { result.held ≡ 0 }
-    {
-        Session {
-            image: registers_at_first(),
-            line: [0; LINE_ROOM],
-            held: 0,
-        }
-    }
-
-    // Takes the next line out of a block, or as much of it as there is, and answers it if it is whole.
-    fn answer_next(&mut self, block: &[u8], text: &mut [u8]) -> Progress
-        requires { longest_answer ≤ length text.old }
-        ensures progressed { Progressed block.now self.old.line self.old.held self.old.image text.old result self.new.line self.new.held self.new.image text.new }
-        ensures moves { Moves block.now result }
-    {
-        let taken = lines::take_line(block, &mut self.line, self.held);
-        self.held = taken.held;
-        if !taken.whole {
-            return Progress {
-                used: taken.used,
-                written: 0,
-            };
-        }
-        let written = answer(&self.line[..taken.held], &mut self.image, text);
-        self.held = 0;
-        Progress {
+// Takes the next line out of a block, or as much of it as there is, and answers it if it is whole.
+fn answer_next(
+    block: &[u8],
+    line: &mut [u8],
+    held: usize,
+    image: &mut [u16],
+    text: &mut [u8],
+) -> Progress
+    requires longest_line_in_bounds { longest_line < length line.old }
+    requires held_in_bounds { held ≤ length line.old }
+    requires longest_answer_in_bounds { longest_answer ≤ length text.old }
+    ensures progressed { Progressed block.now line.old held image.old text.old result line.new image.new text.new }
+    ensures moves { Moves block.now result }
+{
+    let taken = lines::take_line(block, line, held);
+    if !taken.whole {
+        return Progress {
             used: taken.used,
-            written,
-        }
+            held: taken.held,
+            written: 0,
+        };
     }
+    let written = answer(&line[..taken.held], image, text);
+    Progress {
+        used: taken.used,
+        held: 0,
+        written,
+    }
+}
 
-    // Answers the lines of a block one after the other, as long as the text has room for another answer.
-    pub(crate) fn answer_lines(&mut self, block: &[u8], text: &mut [u8]) -> Progress
-        requires { longest_answer ≤ length text.old }
-        ensures progressed { Progressed block.now self.old.line self.old.held self.old.image text.old result self.new.line self.new.held self.new.image text.new }
-        ensures moves { Moves block.now result }
-    {
-        let mut used = 0;
-        let mut written = 0;
-        while used < block.len() && LONGEST_ANSWER <= text.len() - written {
-            let done = self.answer_next(&block[used..], &mut text[written..]);
-            used += done.used;
-            written += done.written;
-        }
-        Progress { used, written }
+// Answers the lines of a block one after the other, as long as the text has room for another answer.
+pub(crate) fn answer_lines(
+    block: &[u8],
+    line: &mut [u8],
+    mut held: usize,
+    image: &mut [u16],
+    text: &mut [u8],
+) -> Progress
+    requires longest_line_in_bounds { longest_line < length line.old }
+    requires held_in_bounds { held ≤ length line.old }
+    requires longest_answer_in_bounds { longest_answer ≤ length text.old }
+    ensures progressed { Progressed block.now line.old held image.old text.old result line.new image.new text.new }
+    ensures moves { Moves block.now result }
+{
+    let mut used = 0;
+    let mut written = 0;
+    while used < block.len() && LONGEST_ANSWER <= text.len() - written {
+        let done = answer_next(&block[used..], line, held, image, &mut text[written..]);
+        used += done.used;
+        held = done.held;
+        written += done.written;
+    }
+    Progress {
+        used,
+        held,
+        written,
     }
 }

@@ -3,62 +3,104 @@
 
 mod answer;
 
-ghost use Rattle.std.specs.Prelude.{OnSome};
-ghost use Rattle.bench.specs.Blocks.{BlockPassed};
+ghost use Rattle.std.specs.Prelude.{◌≤◌, ◌<◌, length};
+ghost use Rattle.lines.specs.Hex.{longest_line};
+ghost use Rattle.bench.specs.Bench.{longest_answer};
+ghost use Rattle.bench.specs.Blocks.{HeldWithin, BlockPassed};
 
-use answer::Session;
 use std::io::{Read, Stdin, Stdout, Write};
 
 // The characters of a block of input, and of the answers to some of its lines.
 const BLOCK_ROOM: usize = 65536;
 
-// Answers the lines of a block, and writes the answers; None where the output has ended.
+// One more than the longest line that says a frame, so that a longer one is seen to be longer.
+const LINE_ROOM: usize = lines::LONGEST_LINE + 1;
+
+// Answers the lines of a block, writes the answers, and tells how many characters of the next line are held; None where the output has
+// ended.
 fn answer_block(
-    session: &mut Session,
     stdout: &mut Stdout,
     block: &[u8],
-    text: &mut [u8; BLOCK_ROOM],
-) -> Option<()>
-    ensures { OnSome result (BlockPassed block.now session.old.line session.old.held session.old.image session.new.line session.new.held session.new.image) }
+    line: &mut [u8],
+    mut held: usize,
+    image: &mut [u16],
+    text: &mut [u8],
+) -> Option<usize>
+    requires longest_line_in_bounds { longest_line < length line.old }
+    requires held_in_bounds { held ≤ length line.old }
+    requires longest_answer_in_bounds { longest_answer ≤ length text.old }
+    ensures held_within { HeldWithin (length line.old) result }
+    ensures block_passed { BlockPassed block.now line.old held image.old line.new image.new result }
 {
     let mut from = 0;
     while from < block.len() {
-        let done = session.answer_lines(&block[from..], text);
+        let done = answer::answer_lines(&block[from..], line, held, image, text);
         stdout.write_all(&text[..done.written]).ok()?;
         from += done.used;
+        held = done.held;
     }
-    Some(())
+    Some(held)
 }
 
 // Reads a block and answers its lines; None where the input or the output has ended. At the end of the input a last line is answered; a
 // line that a failure cuts off is not.
 fn read_block(
-    session: &mut Session,
     stdin: &mut Stdin,
     stdout: &mut Stdout,
-    input: &mut [u8; BLOCK_ROOM],
-    text: &mut [u8; BLOCK_ROOM],
-) -> Option<()> {
+    input: &mut [u8],
+    line: &mut [u8],
+    held: usize,
+    image: &mut [u16],
+    text: &mut [u8],
+) -> Option<usize>
+    requires longest_line_in_bounds { longest_line < length line.old }
+    requires held_in_bounds { held ≤ length line.old }
+    requires longest_answer_in_bounds { longest_answer ≤ length text.old }
+    ensures { HeldWithin (length line.old) result }
+{
     let n = stdin.read(input).ok()?;
     if n == 0 {
-        let last = &session.line[..session.held];
-        let written = answer::answer_last(last, &mut session.image, text);
+        let written = answer::answer_last(&line[..held], image, text);
         let _ = stdout.write_all(&text[..written]);
         return None;
     }
-    answer_block(session, stdout, &input[..n], text)
+    answer_block(stdout, &input[..n], line, held, image, text)
 }
 
 // Goes on block by block. A proved loop has to end, so there is a number of blocks, one that no input uses up.
+fn run(
+    stdin: &mut Stdin,
+    stdout: &mut Stdout,
+    input: &mut [u8],
+    line: &mut [u8],
+    image: &mut [u16],
+    text: &mut [u8],
+)
+    requires longest_line_in_bounds { longest_line < length line.old }
+    requires longest_answer_in_bounds { longest_answer ≤ length text.old }
+{
+    let mut held = 0;
+    for _ in 0..u64::MAX {
+        let Some(n) = read_block(stdin, stdout, input, line, held, image, text) else {
+            return;
+        };
+        held = n;
+    }
+}
+
 fn main(rt: HostRuntime) {
     let mut stdin = rt.stdin();
     let mut stdout = rt.stdout();
-    let mut session = Session::new();
+    let mut image = answer::registers_at_first();
+    let mut line = [0u8; LINE_ROOM];
     let mut input = [0u8; BLOCK_ROOM];
     let mut text = [0u8; BLOCK_ROOM];
-    for _ in 0..u64::MAX {
-        if read_block(&mut session, &mut stdin, &mut stdout, &mut input, &mut text).is_none() {
-            return;
-        }
-    }
+    run(
+        &mut stdin,
+        &mut stdout,
+        &mut input,
+        &mut line,
+        &mut image,
+        &mut text,
+    );
 }
