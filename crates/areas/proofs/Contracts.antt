@@ -57,3 +57,6 @@ survey_words_determined κs a x y s t = laws.SurveyWordsDetermined a.0.now a.1.0
 
 access_determined : (κs : _) (a : _) (x y : Result Access UnknownAccess) (s t : _) → access.Post κs a x s → access.Post κs a y t → x ≡ y
 access_determined κs a x y s t = access_named_determined a.0 x y
+
+access_takes : (κs : _) (a : _) → access.Pre κs a
+access_takes κs a = tt

@@ -9,7 +9,7 @@ use Rattle.std.specs.Prelude.{Option, Result}
 use Rattle.frames.specs.declared.Act.{Act}
 use Rattle.frames.specs.declared.Width.{Width}
 use Rattle.frames.specs.declared.Code.{Code}
-use Rattle.frames.specs.declared.NoCode.{NoCode}
+use Rattle.frames.specs.declared.UnknownCode.{UnknownCode}
 use Rattle.frames.proofs.Laws as laws
 use Rattle.frames.proofs.byte_at.Reads as byte_at
 use Rattle.frames.proofs.number_at.Reads as number_at
@@ -56,7 +56,7 @@ is_bit_value_determined κs a x y s t = laws.IsBitValueDetermined a.0 x y
 code_number_determined : (κs : _) (a : _) (x y : ℕ) (s t : _) → code-number.Post κs a x s → code-number.Post κs a y t → x ≡ y
 code_number_determined κs a x y s t = equal_determined _ x y
 
-code_with_determined : (κs : _) (a : _) (x y : Result Code NoCode) (s t : _) → code-with.Post κs a x s → code-with.Post κs a y t → x ≡ y
+code_with_determined : (κs : _) (a : _) (x y : Result Code UnknownCode) (s t : _) → code-with.Post κs a x s → code-with.Post κs a y t → x ≡ y
 code_with_determined κs a x y s t = laws.CodeIsDetermined a.0 x y
 
 top_bit_set_determined : (κs : _) (a : _) (x y : ℕ) (s t : _) → top-bit-set.Post κs a x s → top-bit-set.Post κs a y t → x ≡ y

@@ -61,6 +61,6 @@ IsBitValueDetermined value = decides_determined (BitValue value)
 
 pub CodeIsDetermined : laws.CodeIsDetermined
 CodeIsDetermined number (Ok a) (Ok b) p q = ap Ok (CodesApart a b (sym p ∙ q))
-CodeIsDetermined number (Ok a) (Err e) p q = absurd (q a p)
-CodeIsDetermined number (Err e) (Ok b) p q = absurd (p b q)
-CodeIsDetermined number (Err e) (Err f) p q = refl
+CodeIsDetermined number (Ok a) (Err v) p q = absurd (q.1 a p)
+CodeIsDetermined number (Err u) (Ok b) p q = absurd (p.1 b q)
+CodeIsDetermined number (Err u) (Err v) p q = grind (arith, p.0, q.0)

@@ -3,7 +3,7 @@
 use Rattle.std.specs.Prelude.{◌≡◌, ◌≢◌, List, [], ◌∷◌, Result, Ok, Err, ℕ, ◌+◌, ◌%◌}
 use Rattle.check_word.specs.Frame.{framed}
 use Rattle.frames.specs.declared.Code.{Code}
-use Rattle.frames.specs.declared.NoCode.{NoCode}
+use Rattle.frames.specs.declared.UnknownCode.{UnknownCode}
 use Rattle.frames.specs.declared.Code.TheVariants.{Function, Address, Value, NotReady, ReadOnly}
 
 -- the numbers of the codes
@@ -15,9 +15,9 @@ code_number NotReady = 4
 code_number ReadOnly = 8
 
 -- the code with this number, or that there is none
-abbrev pub CodeIs : ℕ → Result Code NoCode → Type 0
+abbrev pub CodeIs : ℕ → Result Code UnknownCode → Type 0
 CodeIs number (Ok code) = number ≡ code_number code
-CodeIs number (Err none) = (code : Code) → number ≢ code_number code
+CodeIs number (Err unknown) = (unknown.0 ≡ number) × ((code : Code) → number ≢ code_number code)
 
 -- a function with its top bit set: 03 becomes 83, and 83 stays 83
 unfoldable pub top_bit_set : ℕ → ℕ

@@ -80,7 +80,7 @@ pub enum Code {
 
 // A number that is no code's.
 #[derive(Clone, Copy, Debug, PartialEq, Eq)]
-pub struct NoCode;
+pub struct UnknownCode(pub u8);
 
 // Byte i; past the end, 0.
 pub fn byte_at(bytes: &[u8], i: usize) -> u8
@@ -115,7 +115,7 @@ pub fn function_of(number: u8) -> Option<(Act, Width)>
     }
 }
 
-// How many bits or words a request is about: one has no quantity.
+// How many bits or words a request is about: a write of one has no quantity in its frame.
 pub fn quantity_of(act: Act, frame: &[u8]) -> u16
     ensures { result ≡ quantity act frame.now }
 {
@@ -149,7 +149,7 @@ pub fn bytes_for(width: Width, count: u16) -> usize
     ensures { result ≡ bytes_for width count }
 {
     match width {
-        Width::Bit => (count as usize + 7) / registers::BYTE_BITS,
+        Width::Bit => (count as usize).div_ceil(registers::BYTE_BITS),
         Width::Word => 2 * count as usize,
     }
 }
@@ -198,18 +198,18 @@ impl From<Code> for u8 {
 
 // .. and the code with a number.
 impl TryFrom<u8> for Code {
-    type Error = NoCode;
+    type Error = UnknownCode;
 
     ghost try_from_gives = { CodeIs };
 
-    fn try_from(number: u8) -> Result<Code, NoCode> {
+    fn try_from(number: u8) -> Result<Code, UnknownCode> {
         match number {
             1 => Ok(Code::Function),
             2 => Ok(Code::Address),
             3 => Ok(Code::Value),
             4 => Ok(Code::NotReady),
             8 => Ok(Code::ReadOnly),
-            _ => Err(NoCode),
+            _ => Err(UnknownCode(number)),
         }
     }
 }
