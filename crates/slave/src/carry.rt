@@ -23,7 +23,8 @@ pub(crate) fn carry_out(
     image: &mut [u16],
     reply: &mut [u8],
 ) -> Outcome
-    requires { CanBeDone station frame.now (length image.old) (length reply.old) decision × ((n : ℕ) → kind_decided decision ≡ exception n → 2 ≤ length frame.now) }
+    requires { CanBeDone station frame.now (length image.old) (length reply.old) decision
+        × ((n : ℕ) → kind_decided decision ≡ exception n → 2 ≤ length frame.now) }
     ensures { CarriedOut station frame.now image.old reply.old decision result image.new reply.new }
 {
     match decision {

@@ -14,7 +14,7 @@ use areas::{Run, Verdict};
 use frames::{Act, Code, Width};
 use registers::WORD_BITS;
 
-// An accepted request: `count` bits or words from address `first` on, counted from 0.
+// What a frame asks for: `count` bits or words from address `first` on, counted from 0.
 #[derive(Clone, Copy)]
 pub(crate) struct Request {
     pub act: Act,

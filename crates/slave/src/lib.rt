@@ -20,7 +20,7 @@ use frames::Code;
 pub const MOST_IMAGE_WORDS: usize = 4095;
 
 // The fewest bytes of a reply buffer.
-pub const LEAST_ROOM: usize = 256;
+pub const LEAST_ROOM: usize = frames::LONGEST;
 
 // How the line counts addresses: MOD-Bus from 0, J-Bus from 1.
 #[derive(Clone, Copy, Debug, PartialEq, Eq)]
