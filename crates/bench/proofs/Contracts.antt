@@ -2,6 +2,7 @@
 -- the parameters as the call leaves them. Nothing uses this; it is there to be checked.
 -- Assumes nothing.
 use mathlib.Core.Path.{◌≡◌}
+use Rattle.std.specs.Prelude.{IfOk}
 use Rattle.bench.specs.Bench.{registers_at_first, Stands}
 use Rattle.bench.specs.Input.{LastAnswered}
 use Rattle.bench.specs.Blocks.{BlockPassed}
@@ -13,7 +14,7 @@ begins_so : (κs : _) (a : _) (r : _) (s : _) → registers-at-first.Post κs a 
 begins_so κs a r s p = p
 
 passes_blocks : (κs : _) (a : _) (r : _) (s : _) → answer-block.Post κs a r s
-    → BlockPassed a.1.0.now a.1.1.0.now a.1.1.1.0 a.1.1.1.1.0.now s.1.1.0.now s.1.1.1.1.0.now r
+    → IfOk r (BlockPassed a.1.0.now a.1.1.0.now a.1.1.1.0 a.1.1.1.1.0.now s.1.1.0.now s.1.1.1.1.0.now)
 passes_blocks κs a r s p = p.1
 
 ends_so : (κs : _) (a : _) (r : _) (s : _) → answer-last.Post κs a r s

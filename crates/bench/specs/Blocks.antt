@@ -1,7 +1,7 @@
 -- How the lines of an input are answered block by block, for the contracts of private functions alone. The line that a block has begun
 -- is held in a buffer, as far as the buffer goes.
 -- Assumes nothing.
-use Rattle.std.specs.Prelude.{◌≡◌, Option, Some, None, List, ◌++◌, ℕ, ◌≤◌, ◌<◌, length, take}
+use Rattle.std.specs.Prelude.{◌≡◌, List, ◌++◌, ℕ, ◌≤◌, ◌<◌, length, take}
 use Rattle.bench.specs.declared.answer.Progress.{Progress}
 use Rattle.bench.specs.Bench.{Stands}
 use Rattle.bench.specs.Input.{Unfed, Cut, AllAnswered}
@@ -33,13 +33,7 @@ pub record Progressed (block buffer : List ℕ) (held : ℕ) (image text : List 
 abbrev pub Moves : List ℕ → Progress → Type 0
 Moves block done = 0 < length block → 0 < done.used
 
--- what is held of the next line lies inside its buffer
-abbrev pub HeldWithin : ℕ → Option ℕ → Type 0
-HeldWithin size (Some n) = n ≤ size
-HeldWithin size None = Unit
-
--- the whole of a block has passed, unless the output has ended
-unfoldable pub BlockPassed : (block buffer : List ℕ) (held : ℕ) (image buffer_after image_after : List ℕ) → Option ℕ → Type 0
-BlockPassed block buffer held image buffer_after image_after (Some n) =
-    (answers : List ℕ) × Passed block buffer held image buffer_after n image_after answers
-BlockPassed block buffer held image buffer_after image_after None = Unit
+-- the whole of a block has passed, and so much is held of the line that it leaves begun
+unfoldable pub BlockPassed : (block buffer : List ℕ) (held : ℕ) (image buffer_after image_after : List ℕ) (held_after : ℕ) → Type 0
+BlockPassed block buffer held image buffer_after image_after held_after =
+    (answers : List ℕ) × Passed block buffer held image buffer_after held_after image_after answers

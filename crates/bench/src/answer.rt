@@ -1,13 +1,12 @@
 // What station 20 answers to lines of text.
 ghost use Rattle.std.specs.Prelude.{◌≡◌, ◌≤◌, ◌<◌, length};
-ghost use Rattle.areas.specs.Calls.{listed};
 ghost use Rattle.slave.specs.Examples.{areas as Examples·areas};
 ghost use Rattle.lines.specs.Hex.{longest_line};
 ghost use Rattle.bench.specs.Input.{LastAnswered};
 ghost use Rattle.bench.specs.Blocks.{Progressed, Moves};
 ghost use Rattle.bench.specs.Bench.{registers_at_first, FrameAnswered, Answered, longest_answer, Stands};
 
-use areas::{Access, Area, AreaList};
+use areas::{Access, Area};
 use slave::{Counting, State, Station};
 
 // The most characters of an answer.
@@ -33,26 +32,21 @@ pub(crate) fn registers_at_first() -> [u16; 16]
 }
 
 // Words 0 to 7 read-write, 8 to 15 read-only.
-fn two_areas() -> AreaList
-    ensures { listed result ≡ Examples·areas }
+fn two_areas() -> [Area; 2]
+    ensures { result ≡ Examples·areas }
 {
-    let unused = Area {
-        first: 0,
-        count: 0,
-        access: Access::ReadOnly,
-    };
-    let mut entries = [unused; areas::LIST_ENTRIES];
-    entries[0] = Area {
-        first: 0,
-        count: 8,
-        access: Access::ReadWrite,
-    };
-    entries[1] = Area {
-        first: 8,
-        count: 8,
-        access: Access::ReadOnly,
-    };
-    AreaList { entries, len: 2 }
+    [
+        Area {
+            first: 0,
+            count: 8,
+            access: Access::ReadWrite,
+        },
+        Area {
+            first: 8,
+            count: 8,
+            access: Access::ReadOnly,
+        },
+    ]
 }
 
 // Answers a frame of the bench station, as a line of text.
@@ -66,7 +60,7 @@ fn answer_frame(frame: &[u8], image: &mut [u16], text: &mut [u8]) -> usize
         state: State::Ready,
     };
     let mut reply = [0u8; slave::LEAST_ROOM];
-    let outcome = slave::respond_by_value(station, two_areas(), frame, image, &mut reply);
+    let outcome = slave::respond(station, &two_areas(), frame, image, &mut reply);
     lines::write_outcome(outcome, &reply, text).unwrap()
 }
 

@@ -27,9 +27,7 @@ pub(crate) fn answer(line: &[u8], output: &mut Output) -> io::Result<()> {
         Kind::Build(request) => {
             build(request, bytes, &mut lent, output)?;
         }
-        Kind::Read(request) => {
-            read(request, bytes, &mut lent, output)?;
-        }
+        Kind::Read(request) => read(request, bytes, &mut lent, output)?,
         Kind::Exchange(request, mut slave) => {
             exchange(request, bytes, &mut slave, &mut lent, output)?;
         }
@@ -37,13 +35,13 @@ pub(crate) fn answer(line: &[u8], output: &mut Output) -> io::Result<()> {
     writeln!(output)
 }
 
-// Calls the slave, and gives what it sends.
+// Calls the slave, and gives what it sends. None: nothing.
 fn respond<'a>(
     slave: &mut Slave<'_>,
     frame: &[u8],
     lent: &'a mut Lent<'_>,
     output: &mut Output,
-) -> io::Result<&'a [u8]> {
+) -> io::Result<Option<&'a [u8]>> {
     let before = copy_of(slave.image);
     let outcome = slave::respond_by_value(
         slave.station,
@@ -60,7 +58,10 @@ fn respond<'a>(
     }
     let sent = lent.put(slave::to_send(outcome), output)?;
     put_changed(&before, slave.image, output)?;
-    Ok(sent)
+    match outcome {
+        Outcome::Refused(_) | Outcome::Silent(_) => Ok(None),
+        Outcome::Exception(_) | Outcome::Reply(_) => Ok(Some(sent)),
+    }
 }
 
 // The words of an image, in the start of an array.
@@ -86,42 +87,45 @@ fn put_changed(before: &[u16], image: &[u16], output: &mut Output) -> io::Result
     Ok(())
 }
 
-// Builds a request, and gives its bytes.
+// Builds a request, and gives its bytes. None: refused.
 fn build<'a>(
     request: Request,
     data: &[u8],
     lent: &'a mut Lent<'_>,
     output: &mut Output,
-) -> io::Result<&'a [u8]> {
+) -> io::Result<Option<&'a [u8]>> {
     match master::build(request, data, lent.bytes) {
         Err(why) => {
             write!(output, "refused {}", u8::from(why))?;
-            lent.put(0, output)
+            lent.put(0, output)?;
+            Ok(None)
         }
         Ok(n) => {
             write!(output, "frame")?;
-            lent.put(n, output)
+            Ok(Some(lent.put(n, output)?))
         }
     }
 }
 
-// Reads a reply beside its request, and gives its data.
-fn read<'a>(
+// Reads a reply beside its request.
+fn read(
     request: Request,
     reply: &[u8],
-    lent: &'a mut Lent<'_>,
+    lent: &mut Lent<'_>,
     output: &mut Output,
-) -> io::Result<&'a [u8]> {
+) -> io::Result<()> {
+    let mut written = 0;
     match master::read_reply(request, reply, lent.bytes) {
         Ok(Reading::Data(n)) => {
             write!(output, "data")?;
-            return lent.put(n, output);
+            written = n;
         }
         Ok(Reading::Written) => write!(output, "written")?,
         Ok(Reading::Exception(code)) => write!(output, "exception {}", u8::from(code))?,
         Err(why) => write!(output, "refused {}", u8::from(why))?,
     }
-    lent.put(0, output)
+    lent.put(written, output)?;
+    Ok(())
 }
 
 // Builds a request. If that is done, the slave is called with it, and what it sends is read.
@@ -134,18 +138,15 @@ fn exchange(
 ) -> io::Result<()> {
     let mut room = [0; master::LEAST_ROOM];
     let mut to_build_in = Lent::filled(&mut room, IN_EXCHANGE);
-    let frame = build(request, data, &mut to_build_in, output)?;
-    if frame.is_empty() {
+    let Some(frame) = build(request, data, &mut to_build_in, output)? else {
         return Ok(());
-    }
+    };
     write!(output, "|")?;
-    let reply = respond(slave, frame, lent, output)?;
-    if reply.is_empty() {
+    let Some(reply) = respond(slave, frame, lent, output)? else {
         return Ok(());
-    }
+    };
     write!(output, "|")?;
     let mut room = [0; master::LEAST_ROOM];
     let mut to_read_into = Lent::filled(&mut room, IN_EXCHANGE);
-    read(request, reply, &mut to_read_into, output)?;
-    Ok(())
+    read(request, reply, &mut to_read_into, output)
 }

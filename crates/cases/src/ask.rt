@@ -78,9 +78,8 @@ impl<'a> Ask<'a> {
     }
 }
 
-// Where a text is given back too, it is what follows the bar behind what was read.
-
 impl<'a> Kind<'a> {
+    // Reads the parts of what is asked for, and gives the text behind the bar that ends them too.
     fn read<'t>(text: &'t str, room: &'a mut [u16; MOST_WORDS]) -> Option<(Self, &'t str)> {
         let (word, rest) = text.split_once('|')?;
         match word {
@@ -200,5 +199,5 @@ fn read_image<'a>(text: &str, room: &'a mut [u16; MOST_WORDS]) -> Option<&'a mut
 
 fn read_bytes<'a>(text: &str, room: &'a mut [u8; MOST_BYTES]) -> Option<&'a [u8]> {
     let n = lines::read_frame(text.as_bytes(), room)?;
-    room.get(..n)
+    Some(&room[..n])
 }

@@ -1,4 +1,6 @@
 // A lent buffer, and its background, which it was filled with.
+ghost use Rattle.std.specs.Prelude.{◌≤◌, length};
+
 use crate::output::Output;
 use crate::series::Series;
 use std::io::Write;
@@ -36,8 +38,10 @@ impl<'a> Lent<'a> {
     }
 
     // Puts the first bytes, which were written, and whether those beyond have their background still. Gives the bytes.
-    pub(crate) fn put(&self, written: usize, output: &mut Output) -> io::Result<&[u8]> {
-        let bytes = self.bytes.get(..written).unwrap_or(&[]);
+    pub(crate) fn put(&self, written: usize, output: &mut Output) -> io::Result<&[u8]>
+        requires { written ≤ length self.bytes.now }
+    {
+        let bytes = &self.bytes[..written];
         let hex = Hex(bytes);
         let kept = self
             .bytes

@@ -47,10 +47,7 @@ fn run(rt: &HostRuntime) -> io::Result<()> {
 // Answers the lines that end in a block, and begins the next.
 fn answer_block(block: &[u8], line: &mut Begun, output: &mut Output) -> io::Result<()> {
     let mut rest = block;
-    for _ in 0..block.len() {
-        let Some(next) = line.take(rest) else {
-            break;
-        };
+    while let Some(next) = line.take(rest) {
         answer::answer(line.text(), output)?;
         line.clear();
         rest = next;

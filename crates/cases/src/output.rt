@@ -1,5 +1,6 @@
 // Output by way of a buffer: what is written waits in its start until it goes out together.
 ghost use Rattle.std.specs.Prelude.{◌≤◌};
+ghost use Rattle.cases.specs.declared.output.TheConstants.{ROOM};
 
 use std::io;
 use std::io::{Stdout, Write};
@@ -12,7 +13,7 @@ pub(crate) struct Output {
     stdout: Stdout,
     text: [u8; ROOM],
     waiting: usize,
-    ghost within: { waiting ≤ 65536 },
+    ghost within: { waiting ≤ ROOM },
 }
 
 impl Output {

@@ -54,8 +54,7 @@ pub fn put_check_word(buffer: &mut [u8], n: usize) -> Result<(), NoRoom>
     if buffer.len().saturating_sub(n) < 2 {
         return Err(NoRoom);
     }
-    let [low, high] = check_word(&buffer[..n]).to_le_bytes();
-    buffer[n] = low;
-    buffer[n + 1] = high;
+    let word = check_word(&buffer[..n]).to_le_bytes();
+    buffer[n..n + 2].copy_from_slice(&word);
     Ok(())
 }

@@ -1,5 +1,5 @@
-// Bytes in two-digit hex, one at a time: to a place in a text, and from the k-th place of a line.
-ghost use Rattle.std.specs.Prelude.{◌≡◌, [], ◌∷◌, ◌++◌, ◌+◌, ◌*◌, ◌≤◌, ◌<◌, length, take, drop};
+// Bytes in two-digit hex, one at a time: as three characters, and from the k-th place of a line.
+ghost use Rattle.std.specs.Prelude.{◌≡◌, [], ◌∷◌, ◌+◌, ◌*◌, ◌≤◌, ◌<◌, length};
 ghost use Rattle.lines.specs.Hex.{digit as Hex·digit, spaced};
 ghost use Rattle.lines.specs.Places.{DigitValue, ByteAt};
 
@@ -13,17 +13,15 @@ fn digit(d: u8) -> u8
     if d < 10 { b'0' + d } else { b'A' - 10 + d }
 }
 
-// Writes a blank and the two digits of a byte into the text at a place.
-pub(crate) fn write_byte(byte: u8, text: &mut [u8], at: usize)
-    requires { at + 3 ≤ length text.old }
-    ensures { text.new ≡ take at text.old ++ spaced (byte ∷ []) ++ drop (at + 3) text.old }
+// A blank and the two digits of a byte.
+#[tactic(auto, unfolding(crate::specs::Hex::spaced))]
+pub(crate) fn spaced(byte: u8) -> [u8; 3]
+    ensures { result ≡ spaced (byte ∷ []) }
 {
-    text[at] = BLANK;
-    text[at + 1] = digit(byte / 16);
-    text[at + 2] = digit(byte % 16);
+    [BLANK, digit(byte / 16), digit(byte % 16)]
 }
 
-// The number that a character is the digit of, in either case.
+// The number that a character is the digit of, in either case; None if it is no digit.
 #[tactic(auto, using(std::proofs::lemmas::Bool::Decides::nat_tests), unfolding(crate::specs::Hex::upper))]
 fn value(c: u8) -> Option<u8>
     ensures { DigitValue c result }
@@ -36,7 +34,7 @@ fn value(c: u8) -> Option<u8>
     }
 }
 
-// The byte at place k of a line. The first byte has no blank before it.
+// The byte at place k of a line; None where no byte stands there. The first byte has no blank before it.
 pub(crate) fn byte_at(line: &[u8], k: usize) -> Option<u8>
     requires { 3 * k + 2 ≤ length line.now }
     ensures { ByteAt line.now k result }

@@ -77,7 +77,7 @@ pub fn write_bytes(bytes: &[u8], text: &mut [u8]) -> Option<usize>
         return None;
     }
     for (k, &byte) in bytes.iter().enumerate() {
-        hex::write_byte(byte, text, 3 * k);
+        text[3 * k..3 * k + 3].copy_from_slice(&hex::spaced(byte));
     }
     Some(3 * bytes.len())
 }

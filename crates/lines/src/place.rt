@@ -1,4 +1,4 @@
-// Pieces of text put into their places.
+// Parts of a line put into its buffer, and the lines of outcomes put into a text.
 ghost use Rattle.std.specs.Prelude.{◌≡◌, ◌++◌, min, length, take};
 ghost use Rattle.slave.specs.Answer.{over};
 ghost use Rattle.lines.specs.Hex.{spaced};
@@ -36,7 +36,7 @@ pub(crate) fn write_two(first: &[u8], second: &[u8], text: &mut [u8]) -> Option<
     Some(end)
 }
 
-// Writes a word and a number below 100 as a line.
+// Writes a word and a number as a line. The number gets one digit or two: those of outcomes are below 100.
 pub(crate) fn write_number(word: &[u8], number: u8, text: &mut [u8]) -> Option<usize>
     ensures { Written (as_line (word.now ++ decimal number)) text.old result text.new }
 {

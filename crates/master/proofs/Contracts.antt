@@ -11,7 +11,7 @@ use Rattle.promise.proofs.Promise.{equal_determined}
 use Rattle.check_word.specs.Frame.{Bytes}
 use Rattle.check_word.specs.Line.{Damaged}
 use Rattle.master.specs.declared.Function.{Function}
-use Rattle.master.specs.declared.NoFunction.{NoFunction}
+use Rattle.master.specs.declared.UnknownFunction.{UnknownFunction}
 use Rattle.master.specs.declared.Refusal.{Refusal}
 use Rattle.master.specs.declared.Refusal.TheVariants.{CheckWord}
 use Rattle.master.specs.declared.Reading.{Reading}
@@ -39,7 +39,7 @@ read_reply_determined κs a x y s t =
 function_number_determined : (κs : _) (a : _) (x y : ℕ) (s t : _) → function-number.Post κs a x s → function-number.Post κs a y t → x ≡ y
 function_number_determined κs a x y s t = equal_determined _ x y
 
-function_with_determined : (κs : _) (a : _) (x y : Result Function NoFunction) (s t : _) → function-with.Post κs a x s → function-with.Post κs a y t → x ≡ y
+function_with_determined : (κs : _) (a : _) (x y : Result Function UnknownFunction) (s t : _) → function-with.Post κs a x s → function-with.Post κs a y t → x ≡ y
 function_with_determined κs a x y s t = laws.FunctionIsDetermined a.0 x y
 
 refusal_number_determined : (κs : _) (a : _) (x y : ℕ) (s t : _) → refusal-number.Post κs a x s → refusal-number.Post κs a y t → x ≡ y

@@ -1,6 +1,7 @@
 -- The laws of the master's half, as specs/Laws.antt states them.
 -- Assumes nothing.
 use mathlib.Core.Path.{refl, sym, ap, ◌∙◌}
+use native.Mathlib.Omega.{arith}
 use Rattle.std.specs.Prelude.{Ok, Err}
 use Rattle.frames.specs.Functions.{function_of}
 use Rattle.master.specs.declared.Function.TheVariants.{ReadBits01, ReadBits02, ReadWords03, ReadWords04, WriteBit05, WriteWord06, WriteBits0F, WriteWords10}
@@ -27,9 +28,9 @@ FunctionsApart = functions_apart
 
 pub FunctionIsDetermined : laws.FunctionIsDetermined
 FunctionIsDetermined number (Ok a) (Ok b) p q = ap Ok (functions_apart a b (sym p ∙ q))
-FunctionIsDetermined number (Ok a) (Err x) p q = absurd (q a p)
-FunctionIsDetermined number (Err x) (Ok b) p q = absurd (p b q)
-FunctionIsDetermined number (Err x) (Err y) p q = refl
+FunctionIsDetermined number (Ok a) (Err x) p (e, none) = absurd (none a p)
+FunctionIsDetermined number (Err x) (Ok b) (e, none) q = absurd (none b q)
+FunctionIsDetermined number (Err x) (Err y) p q = grind (arith, p.0, q.0)
 
 pub RefusalsApart : laws.RefusalsApart
 RefusalsApart = refusals_apart

@@ -8,7 +8,7 @@ use Rattle.frames.specs.declared.Width.TheVariants.{Bit, Word}
 use Rattle.frames.specs.Limits.{bytes_for}
 use Rattle.master.specs.declared.Function.{Function}
 use Rattle.master.specs.declared.Function.TheVariants.{ReadBits01, ReadBits02, ReadWords03, ReadWords04, WriteBit05, WriteWord06, WriteBits0F, WriteWords10}
-use Rattle.master.specs.declared.NoFunction.{NoFunction}
+use Rattle.master.specs.declared.UnknownFunction.{UnknownFunction}
 use Rattle.master.specs.declared.Request.{Request}
 
 -- ---- the eight functions: number, what it does, and to what (`FunctionsInTable` of Laws: so says the frame table, too)
@@ -23,10 +23,10 @@ function_number WriteWord06 = 0x06
 function_number WriteBits0F = 0x0f
 function_number WriteWords10 = 0x10
 
--- the function with this number, or that there is none
-abbrev pub FunctionIs : ℕ → Result Function NoFunction → Type 0
+-- the function with this number, or that there is none: the error has the number
+abbrev pub FunctionIs : ℕ → Result Function UnknownFunction → Type 0
 FunctionIs number (Ok function) = number ≡ function_number function
-FunctionIs number (Err none) = (function : Function) → number ≢ function_number function
+FunctionIs number (Err unknown) = (unknown.0 ≡ number) × ((function : Function) → number ≢ function_number function)
 
 abbrev pub act_of : Function → Act
 act_of ReadBits01 = Read

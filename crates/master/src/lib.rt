@@ -17,7 +17,7 @@ ghost use Rattle.master.specs.Reading.{ReadReply};
 use frames::Code;
 
 // The fewest bytes of a lent buffer.
-pub const LEAST_ROOM: usize = 256;
+pub const LEAST_ROOM: usize = frames::LONGEST;
 
 // The eight functions, each with its number.
 #[derive(Clone, Copy, Debug, PartialEq, Eq)]
@@ -34,7 +34,7 @@ pub enum Function {
 
 // A number that is no function's.
 #[derive(Clone, Copy, Debug, PartialEq, Eq)]
-pub struct NoFunction;
+pub struct UnknownFunction(pub u8);
 
 // The fields of a request, but for the data of 0F and 10.
 #[derive(Clone, Copy, Debug, PartialEq, Eq)]
@@ -75,10 +75,10 @@ pub enum Reading {
 pub fn build(request: Request, carried: &[u8], frame: &mut [u8]) -> Result<usize, Refusal>
     ensures { Build request carried.now frame.old result frame.new }
 {
-    if limits::is_refused(request, frame.len()) || carried.len() != limits::data_size(request) {
+    if request.is_refused(frame.len()) || carried.len() != request.data_size() {
         return Err(Refusal::Request);
     }
-    Ok(put::put(request, carried, frame))
+    Ok(request.put(carried, frame))
 }
 
 // Reads a reply beside the request that it answers. The bytes of the buffer beyond the data keep their content; where no data are
@@ -86,13 +86,13 @@ pub fn build(request: Request, carried: &[u8], frame: &mut [u8]) -> Result<usize
 pub fn read_reply(request: Request, reply: &[u8], buffer: &mut [u8]) -> Result<Reading, Refusal>
     ensures { ReadReply request reply.now buffer.old result buffer.new }
 {
-    if limits::is_refused(request, buffer.len()) {
+    if request.is_refused(buffer.len()) {
         return Err(Refusal::Request);
     }
     if reply.len() < fit::SHORTEST_REPLY || !check_word::is_right(reply) {
         return Err(Refusal::CheckWord);
     }
-    let reading = fit::fit(request, reply)?;
+    let reading = request.fit(reply)?;
     fit::take_data(reading, reply, buffer);
     Ok(reading)
 }
@@ -115,11 +115,11 @@ impl From<Function> for u8 {
 }
 
 impl TryFrom<u8> for Function {
-    type Error = NoFunction;
+    type Error = UnknownFunction;
 
     ghost try_from_gives = { FunctionIs };
 
-    fn try_from(number: u8) -> Result<Function, NoFunction> {
+    fn try_from(number: u8) -> Result<Function, UnknownFunction> {
         match number {
             0x01 => Ok(Function::ReadBits01),
             0x02 => Ok(Function::ReadBits02),
@@ -129,7 +129,7 @@ impl TryFrom<u8> for Function {
             0x06 => Ok(Function::WriteWord06),
             0x0f => Ok(Function::WriteBits0F),
             0x10 => Ok(Function::WriteWords10),
-            _ => Err(NoFunction),
+            _ => Err(UnknownFunction(number)),
         }
     }
 }

@@ -8,41 +8,43 @@ ghost use Rattle.master.specs.Refusals.{least_room, OutOfLimits};
 ghost use Rattle.master.specs.Building.{over, PackedAgain, RequestPut};
 ghost use Rattle.master.specs.Putting.{RunPut};
 
-use crate::{Request, limits, spare};
+use crate::{Request, spare};
 use frames::{Act, BYTE_COUNT_AT, DATA_AT, ECHOED, Width};
 
-// Writes a request with the data that it has, and tells its length.
-pub(crate) fn put(request: Request, carried: &[u8], frame: &mut [u8]) -> usize
-    requires { (OutOfLimits request → ⊥) × (length carried.now ≡ data_size request) × (least_room ≤ length frame.old) }
-    ensures { RequestPut request carried.now frame.old result frame.new }
-{
-    put_head(request, frame);
-    match limits::act_of(request.function) {
-        Act::Read | Act::WriteOne => put_end(ECHOED, frame),
-        Act::WriteRun => {
-            let width = limits::width_of(request.function);
-            put_run(width, request.operand, carried, frame);
-            put_end(DATA_AT + carried.len(), frame)
+impl Request {
+    // Writes the request with its data, and tells its length.
+    pub(crate) fn put(self, carried: &[u8], frame: &mut [u8]) -> usize
+        requires { (OutOfLimits self → ⊥) × (length carried.now ≡ data_size self) × (least_room ≤ length frame.old) }
+        ensures { RequestPut self carried.now frame.old result frame.new }
+    {
+        self.put_head(frame);
+        match self.function.act() {
+            Act::Read | Act::WriteOne => put_end(ECHOED, frame),
+            Act::WriteRun => {
+                let width = self.function.width();
+                put_run(width, self.operand, carried, frame);
+                put_end(DATA_AT + carried.len(), frame)
+            }
         }
     }
-}
 
-// Station, function, start, and quantity or value.
-fn put_head(request: Request, frame: &mut [u8])
-    requires { 6 ≤ length frame.old }
-    ensures { frame.new ≡ request_head request ++ drop 6 frame.old }
-{
-    let [start_high, start_low] = request.start.to_be_bytes();
-    let [operand_high, operand_low] = request.operand.to_be_bytes();
-    let head = [
-        request.station,
-        u8::from(request.function),
-        start_high,
-        start_low,
-        operand_high,
-        operand_low,
-    ];
-    copy(&head, frame);
+    // Station, function, start, and quantity or value.
+    fn put_head(self, frame: &mut [u8])
+        requires { 6 ≤ length frame.old }
+        ensures { frame.new ≡ request_head self ++ drop 6 frame.old }
+    {
+        let [start_high, start_low] = self.start.to_be_bytes();
+        let [operand_high, operand_low] = self.operand.to_be_bytes();
+        let head = [
+            self.station,
+            u8::from(self.function),
+            start_high,
+            start_low,
+            operand_high,
+            operand_low,
+        ];
+        frame[..ECHOED].copy_from_slice(&head);
+    }
 }
 
 // Byte count and data, spare bits as 0.

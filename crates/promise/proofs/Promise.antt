@@ -1,7 +1,10 @@
 -- Promises that determine the answer, and what a test of the code answers.
 -- Assumes nothing.
-use mathlib.Core.Path.{◌≡◌, refl, sym, ap, ◌∙◌}
+use mathlib.Core.Path.{◌≡◌, refl, sym, ap, ap₂, ◌∙◌}
 use mathlib.Core.Bool.{Bool, true, false, not, false≢true}
+use Rattle.std.specs.Result.{is_ok}
+use Rattle.std.specs.declared.result.Result.{Result}
+use Rattle.std.specs.declared.result.Result.TheVariants.{Ok, Err}
 use Rattle.promise.specs.Promise.{Determined, Decides, Attempt}
 
 -- one that names the answer
@@ -23,6 +26,20 @@ attempt_determined Possible Done before one (true, x) (true, y) p q = cc (one p.
 attempt_determined Possible Done before one (true, x) (false, y) p q = absurd (q.0 p.0)
 attempt_determined Possible Done before one (false, x) (true, y) p q = absurd (p.0 q.0)
 attempt_determined Possible Done before one (false, x) (false, y) p q = cc (p.1, q.1)
+
+-- ---- a result that holds no value, with an error of one form, is told by whether it is `Ok`
+
+by_ok : {Error : Type 0} → ((e f : Error) → e ≡ f) → (x y : Result (Unit {0}) Error) → is_ok x ≡ is_ok y → x ≡ y
+by_ok one (Ok x) (Ok y) e = refl
+by_ok one (Ok x) (Err y) e = absurd (false≢true (sym e))
+by_ok one (Err x) (Ok y) e = absurd (false≢true e)
+by_ok one (Err x) (Err y) e = ap Err (one x y)
+
+pub answers_by_ok : {Error Content : Type 0} → ((e f : Error) → e ≡ f) → {x y : Result (Unit {0}) Error} {s t : Content}
+    → ◌≡◌ {A = Bool × Content} (is_ok x, s) (is_ok y, t) → ◌≡◌ {A = Result (Unit {0}) Error × Content} (x, s) (y, t)
+answers_by_ok {Error} {Content} one {x = x} {y = y} e =
+    ap₂ (λ (r : Result (Unit {0}) Error) (lent : Content). (r, lent)) (by_ok one x y (ap (λ (a : Bool × Content). a.0) e))
+    (ap (λ (a : Bool × Content). a.1) e)
 
 -- ---- different things have different names, if there is a way back from the name
 
@@ -55,11 +72,6 @@ decides_by Fact false holds back = λ fact. false≢true (back fact)
 pub decides_map : (P Q : Type 0) (t : Bool) → (P → Q) → (Q → P) → Decides P t → Decides Q t
 decides_map P Q true to back says = to says
 decides_map P Q false to back says = λ q. says (back q)
-
--- the opposite
-pub decides_not : (P Q : Type 0) (t : Bool) → (P → Q → ⊥) → ((P → ⊥) → Q) → Decides P t → Decides Q (not t)
-decides_not P Q true excludes otherwise says = excludes says
-decides_not P Q false excludes otherwise says = otherwise says
 
 -- ---- behind a test `if t`
 

@@ -2,14 +2,15 @@
 -- `a` are the arguments, `r` the result, `s` the parameters as the call leaves them. `a.0` is the image, `a.1.0` the first
 -- place, `a.1.1.0` the count (or the bit or word to store), `a.1.1.1.0` the buffer or the bytes.
 -- Assumes nothing.
-use mathlib.Core.Path.{◌≡◌, refl, sym, ap, ap₂}
-use mathlib.Core.Bool.{Bool, false≢true}
+use mathlib.Core.Path.{◌≡◌, refl}
+use mathlib.Core.Bool.{Bool}
 use mathlib.Core.List.{List}
 use Prim.Native.Nat.{ℕ, ◌+◌, ◌*◌, ◌/◌, ◌≤◌, ◌<◌}
 use lib.ListN.{length, take}
 use Rattle.std.specs.Result.{is_ok}
 use Rattle.std.specs.declared.result.Result.{Result}
-use Rattle.std.specs.declared.result.Result.TheVariants.{Ok, Err}
+use Rattle.std.specs.declared.result.Result.TheVariants.{Ok}
+use Rattle.promise.proofs.Promise.{answers_by_ok}
 use Rattle.registers.specs.declared.OutOfRange.{OutOfRange}
 use Rattle.registers.specs.Memory.{word_bits, byte_bits, FitIn, image_word, image_bit}
 use Rattle.registers.specs.Packing.{bytes_for_bits, bytes_for_words, packed_bit, packed_word, BitsPacked}
@@ -22,18 +23,10 @@ use Rattle.registers.proofs.store_word.Reads as Store-word
 use Rattle.registers.proofs.store_bits.Reads as store-bits
 use Rattle.registers.proofs.store_words.Reads as store_words_lem
 
--- there is one `OutOfRange`, so an answer is told by whether it is `Ok`
-by_ok : (x y : Result (Unit {0}) OutOfRange) → is_ok x ≡ is_ok y → x ≡ y
-by_ok (Ok x) (Ok y) e = refl
-by_ok (Ok x) (Err y) e = absurd (false≢true (sym e))
-by_ok (Err x) (Ok y) e = absurd (false≢true e)
-by_ok (Err x) (Err y) e = refl
-
+-- there is one `OutOfRange`
 as_answers : {x y : Result (Unit {0}) OutOfRange} {s t : List ℕ} → ◌≡◌ {A = Bool × List ℕ} (is_ok x, s) (is_ok y, t)
     → ◌≡◌ {A = Result (Unit {0}) OutOfRange × List ℕ} (x, s) (y, t)
-as_answers {x = x} {y = y} e =
-    ap₂ (λ (r : Result (Unit {0}) OutOfRange) (lent : List ℕ). (r, lent)) (by_ok x y (ap (λ (a : Bool × List ℕ). a.0) e))
-    (ap (λ (a : Bool × List ℕ). a.1) e)
+as_answers = answers_by_ok (λ e f. refl)
 
 -- ---- each determines its answer, and what was lent to it
 

@@ -35,7 +35,7 @@ fn packed_bits(bytes: &[u8], first: usize) -> u16
     let low = bytes.get(at).copied().unwrap_or(0);
     let middle = bytes.get(at + 1).copied().unwrap_or(0);
     let high = bytes.get(at + 2).copied().unwrap_or(0);
-    let bits = (high as u32) * 65536 + ((middle as u32) * 256 + (low as u32));
+    let bits = u32::from_le_bytes([low, middle, high, 0]);
     ((bits >> (first % BYTE_BITS)) % 65536) as u16
 }
 
@@ -84,27 +84,12 @@ pub(crate) fn store_piece(image: &mut [u16], word: usize, place: usize, width: u
     image[word] = (old / high * high + (new * low + old % low)) as u16;
 }
 
-// Stores `whole` words of packed bits that start with a byte: each is two bytes, and nothing is shifted.
-fn store_byte_pairs(image: &mut [u16], word: usize, whole: usize, bytes: &[u8], at: usize)
-    requires { (word + whole ≤ length image.old) × (at + 2 * whole ≤ length bytes.now) }
-    ensures { BitsStored (word * word_bits) (whole * word_bits) (from (at * byte_bits) (packed_bit bytes.now))
-        image.old image.new }
-{
-    for i in 0..whole {
-        image[word + i] = u16::from_le_bytes([bytes[at + 2 * i], bytes[at + 2 * i + 1]]);
-    }
-}
-
 // Stores `whole` words of packed bits, from bit `first` of them on.
 fn store_whole(image: &mut [u16], word: usize, whole: usize, bytes: &[u8], first: usize)
     requires { (word + whole ≤ length image.old)
         × (first + whole * word_bits ≤ length bytes.now * byte_bits) × (first + whole * word_bits < 2 ^ 64) }
     ensures { BitsStored (word * word_bits) (whole * word_bits) (from first (packed_bit bytes.now)) image.old image.new }
 {
-    if first % BYTE_BITS == 0 {
-        store_byte_pairs(image, word, whole, bytes, first / BYTE_BITS);
-        return;
-    }
     for i in 0..whole {
         image[word + i] = packed_bits(bytes, first + WORD_BITS * i);
     }

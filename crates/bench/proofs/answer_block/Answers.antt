@@ -17,10 +17,6 @@ loop-from-init c = record {
   passed = ([], nothing_passed c.args.line.now c.args.image.now c.args.held);
 }
 
-pub returns-in_err-ok-clause-block_passed : goal.returns-in_err-ok-clause-block_passed
-unfolding BlockPassed
-returns-in_err-ok-clause-block_passed c = rw c.from_residual.ensures tt
-
 pub loop-from-preserved : goal.loop-from-preserved
 loop-from-preserved c =
     let inv = c.loop-from.invariant in

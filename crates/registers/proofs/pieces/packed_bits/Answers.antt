@@ -7,14 +7,14 @@ use Rattle.registers.specs.Pieces.{Shows}
 use Rattle.registers.proofs.Shows.{shows_run, shows_number, shows_next, shows_part}
 use Rattle.registers.proofs.pieces.packed_bits.Goals as goal
 
-three_bytes : (bytes : List ℕ) (first low middle high : ℕ) → FitIn byte_bits bytes → low ≡ get_or bytes (first / 8) 0
+three_bytes : (bytes : List ℕ) (first low middle high bits : ℕ) → FitIn byte_bits bytes → low ≡ get_or bytes (first / 8) 0
     → middle ≡ get_or bytes (first / 8 + 1) 0 → high ≡ get_or bytes (first / 8 + 2) 0
-    → Shows word_bits (from first (packed_bit bytes)) ((high * 65536 + (middle * 256 + low)) / 2 ^ (first % 8) % 65536)
-three_bytes bytes first low middle high fit el em eh =
+    → bits ≡ high * 65536 + (middle * 256 + low) → Shows word_bits (from first (packed_bit bytes)) (bits / 2 ^ (first % 8) % 65536)
+three_bytes bytes first low middle high bits fit el em eh e =
     let at = first / 8 in
     let place = first % 8 in
     let two = get_or bytes (at + 1) 0 * 256 + get_or bytes at 0 in
-    rw (el, em, eh)
+    rw (e, el, em, eh)
     (shows_run
     (shows_part 24 place word_bits (at * 8) (packed_bit bytes) (get_or bytes (at + 2) 0 * 65536 + two) (omega arith)
     (shows_next 8 bytes at 2 two (fit (at + 2))
@@ -24,4 +24,4 @@ three_bytes bytes first low middle high fit el em eh =
 pub returns : goal.returns
 returns c =
     three_bytes c.args.bytes.now c.args.first c.unwrap_or-low.result c.unwrap_or-middle.result c.unwrap_or-high.result
-    (λ i. (c.type_inv.bytes i).fits) (search rules) (search rules) (search rules)
+    c.from_le_bytes-bits.result (λ i. (c.type_inv.bytes i).fits) (search rules) (search rules) (search rules) (omega arith)

@@ -1,4 +1,4 @@
--- `store_whole` meets its contract: by pairs of bytes, where the bits start with a byte, and else one turn stores one word more.
+-- `store_whole` meets its contract: one turn stores one word more.
 -- Assumes nothing.
 use Rattle.std.proofs.Common.{arith, ap}
 use Rattle.registers.specs.Memory.{from}

@@ -1,4 +1,4 @@
--- The invariant of `store_whole`, where the bits do not start with a byte: the first i words are stored.
+-- The invariant of `store_whole`: the first i words are stored.
 -- Assumes nothing.
 use Rattle.std.proofs.Common.{◌*◌}
 use Rattle.registers.specs.Memory.{word_bits, from}
