@@ -50,13 +50,14 @@ fn respond<'a>(
         slave.image,
         lent.bytes,
     );
+    let to_send = slave::to_send(outcome);
     match outcome {
         Outcome::Refused(why) => write!(output, "refused {}", u8::from(why))?,
         Outcome::Silent(why) => write!(output, "silent {}", u8::from(why))?,
         Outcome::Exception(code) => write!(output, "exception {}", u8::from(code))?,
         Outcome::Reply(_) => write!(output, "reply")?,
     }
-    let sent = lent.put(slave::to_send(outcome), output)?;
+    let sent = lent.put(to_send, output)?;
     put_changed(&before, slave.image, output)?;
     match outcome {
         Outcome::Refused(_) | Outcome::Silent(_) => Ok(None),

@@ -79,7 +79,7 @@ impl<'a> Ask<'a> {
 }
 
 impl<'a> Kind<'a> {
-    // Reads the parts of what is asked for, and gives the text behind the bar that ends them too.
+    // Reads what is asked for, and gives the text behind it too, without the bar between them.
     fn read<'t>(text: &'t str, room: &'a mut [u16; MOST_WORDS]) -> Option<(Self, &'t str)> {
         let (word, rest) = text.split_once('|')?;
         match word {
@@ -105,6 +105,7 @@ impl<'a> Kind<'a> {
 }
 
 impl<'a> Slave<'a> {
+    // Reads a slave's three parts, and gives the text behind them too.
     fn read<'t>(text: &'t str, room: &'a mut [u16; MOST_WORDS]) -> Option<(Self, &'t str)> {
         let (station, rest) = text.split_once('|')?;
         let (list, rest) = rest.split_once('|')?;
@@ -118,6 +119,7 @@ impl<'a> Slave<'a> {
     }
 }
 
+// Reads a request's part, and gives the text behind it too.
 fn read_request(text: &str) -> Option<(Request, &str)> {
     let (part, rest) = text.split_once('|')?;
     let (station, part) = part.split_once(' ')?;

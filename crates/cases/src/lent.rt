@@ -39,7 +39,7 @@ impl<'a> Lent<'a> {
 
     // Puts the first bytes, which were written, and whether those beyond have their background still. Gives the bytes.
     pub(crate) fn put(&self, written: usize, output: &mut Output) -> io::Result<&[u8]>
-        requires { written ≤ length self.bytes.now }
+        requires { written ≤ length self.now.bytes.now }
     {
         let bytes = &self.bytes[..written];
         let hex = Hex(bytes);
