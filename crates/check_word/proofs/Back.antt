@@ -2,15 +2,15 @@
 -- Assumes nothing.
 use mathlib.Core.Path.{◌≡◌, refl, ap, ap₂, ◌∙◌}
 use mathlib.Core.Bool.{Bool, true, false}
-use Prim.Native.Nat.{ℕ, zero, suc, ◌+◌, ◌*◌, ◌/◌, ◌%◌, ◌^◌, ◌<◌}
+use Prim.Native.Nat.{ℕ, zero, suc, ◌+◌, ◌*◌, ◌/◌, ◌%◌}
 use native.Mathlib.Omega.{arith}
 use lib.Bits.{bit_xor}
 use lib.Dec.{leb}
-use borrow.Author.Tests.{eq-eqb, le-leb}
+use borrow.Author.Tests.{eq-eqb}
 use Rattle.check_word.specs.CheckWord.{polynomial, corrected, step, steps}
 use Rattle.check_word.specs.Back.{uncorrected, step_back, steps_back}
 use Rattle.check_word.proofs.Xor.{xor_twice}
-use Rattle.check_word.proofs.Step.{step_double, top_set}
+use Rattle.check_word.proofs.Step.{step_double}
 
 -- ---- steps after steps back
 
@@ -34,11 +34,3 @@ unfolding steps
 steps_steps_back zero w = refl
 steps_steps_back (suc n) w =
     steps_then_step n (steps_back n (step_back w)) ∙ ap step (steps_steps_back n (step_back w)) ∙ step_uncorrected (leb 0x8000 w) w
-
--- ---- a step back after a step: where a 1 was shifted out, the correction set the top bit
-
-pub step_back_odd : (w : ℕ) → w < 2 ^ 16 → w % 2 ≡ 1 → step_back (bit_xor (w / 2) polynomial) ≡ w
-step_back_odd w h e =
-    let word = bit_xor (w / 2) polynomial in
-    ap (λ (x : Bool). uncorrected x word) (le-leb 0x8000 word (top_set (w / 2) (omega arith)))
-    ∙ ap (λ (x : ℕ). x * 2 + 1) (xor_twice (w / 2) polynomial) ∙ omega arith

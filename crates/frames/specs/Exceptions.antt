@@ -14,7 +14,7 @@ code_number Value = 3
 code_number NotReady = 4
 code_number ReadOnly = 8
 
--- the code with this number, or that there is none
+-- the code with this number, or that there is none: the error has the number
 abbrev pub CodeIs : ℕ → Result Code UnknownCode → Type 0
 CodeIs number (Ok code) = number ≡ code_number code
 CodeIs number (Err unknown) = (unknown.0 ≡ number) × ((code : Code) → number ≢ code_number code)
