@@ -10,6 +10,8 @@ use native.Mathlib.Decide.{dec_le}
 use native.Mathlib.Numerals.{add-one}
 use native.Mathlib.Omega.{arith}
 use lib.ListN.{length}
+use Rattle.promise.specs.Promise.{Decides}
+use Rattle.promise.proofs.Promise.{decides_map}
 use Rattle.areas.specs.declared.Access.TheVariants.{ReadOnly}
 use Rattle.areas.specs.declared.Area.{Area}
 use Rattle.areas.specs.declared.Run.{Run}
@@ -23,6 +25,12 @@ use Rattle.areas.proofs.Chain.{chain_behind, chain_next, kept_chain}
 -- an area and a run that overlap share the later of their first words
 pub meets : (area : Area) (first end : ℕ) → max first area.first < min end (end_of area) → Meets area first end
 meets area first end overlap = (max first area.first, omega arith, omega arith, (omega arith, omega arith))
+
+-- .. and where each begins before the other ends, they do so if the run has a word
+pub meets_some : (area : Area) (first end : ℕ) → area.first < end → first < end_of area → 1 ≤ area.count
+    → (t : Bool) → Decides (first < end) t → Decides (Meets area first end) t
+meets_some area first end h k l t =
+    decides_map (first < end) (Meets area first end) t (λ some. meets area first end (omega arith)) (λ met. omega (arith, met.1, met.2))
 
 -- the search after a look at an area that keeps the rules
 abbrev pub after : Search → ℕ → ℕ → Bool → Search

@@ -41,7 +41,16 @@ impl Search {
     fn meets(self, area: Area) -> bool
         ensures { Decides (Meets area self.first self.end) result }
     {
-        self.first.max(area.first as usize) < self.end.min(area.end())
+        if self.end <= area.first as usize {
+            return false;
+        }
+        if area.end() <= self.first {
+            return false;
+        }
+        if area.count < 1 {
+            return false;
+        }
+        self.first < self.end
     }
 
     // The first word from the one reached on that the area doesn't hold.

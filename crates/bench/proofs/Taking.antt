@@ -57,6 +57,9 @@ module _ (block line line_after : List ℕ) (held : ℕ) (taken : Taken) (took :
   pub held_within : taken.held ≤ length line
   held_within = omega (arith, took.told, size)
 
+  pub held_inside : taken.held ≤ length line_after
+  held_inside = omega (arith, held_within, same_size)
+
   -- the buffer holds the line as far as it goes
   held_start : (begun : List ℕ) → Holds line held begun
       → take taken.held line_after ≡ take (length line) (begun ++ up_to_feed block)

@@ -1,5 +1,5 @@
 // What a line asks for is done, and what that answered and left is printed.
-use crate::ask::{Ask, Kind, MOST_WORDS, Room, Slave};
+use crate::ask::{Ask, Kind, Room, Slave};
 use crate::lent::{IN_EXCHANGE, Lent};
 use crate::output::Output;
 use master::{Reading, Request};
@@ -8,17 +8,16 @@ use std::io;
 use std::io::Write;
 
 // Answers a line.
-pub(crate) fn answer(line: &[u8], output: &mut Output) -> io::Result<()> {
-    let mut room = Room::new();
+pub(crate) fn answer(line: &[u8], room: &mut Room, output: &mut Output) -> io::Result<()> {
     let Some(
         Ask {
             kind,
             mut lent,
             bytes,
         },
-    ) = Ask::read(line, &mut room)
+    ) = Ask::read(line, room)
     else {
-        return writeln!(output, "bad line");
+        return output.write_all(b"bad line\n");
     };
     match kind {
         Kind::Call(mut slave) => {
@@ -32,7 +31,7 @@ pub(crate) fn answer(line: &[u8], output: &mut Output) -> io::Result<()> {
             exchange(request, bytes, &mut slave, &mut lent, output)?;
         }
     }
-    writeln!(output)
+    output.write_all(b"\n")
 }
 
 // Calls the slave, and gives what it sends. None: nothing.
@@ -42,7 +41,6 @@ fn respond<'a>(
     lent: &'a mut Lent<'_>,
     output: &mut Output,
 ) -> io::Result<Option<&'a [u8]>> {
-    let before = copy_of(slave.image);
     let outcome = slave::respond_by_value(
         slave.station,
         slave.list,
@@ -55,28 +53,19 @@ fn respond<'a>(
         Outcome::Refused(why) => write!(output, "refused {}", u8::from(why))?,
         Outcome::Silent(why) => write!(output, "silent {}", u8::from(why))?,
         Outcome::Exception(code) => write!(output, "exception {}", u8::from(code))?,
-        Outcome::Reply(_) => write!(output, "reply")?,
+        Outcome::Reply(_) => output.write_all(b"reply")?,
     }
     let sent = lent.put(to_send, output)?;
-    put_changed(&before, slave.image, output)?;
+    put_changed(slave.before, slave.image, output)?;
     match outcome {
         Outcome::Refused(_) | Outcome::Silent(_) => Ok(None),
         Outcome::Exception(_) | Outcome::Reply(_) => Ok(Some(sent)),
     }
 }
 
-// The words of an image, in the start of an array.
-fn copy_of(image: &[u16]) -> [u16; MOST_WORDS] {
-    let mut copy = [0; MOST_WORDS];
-    for (to, from) in copy.iter_mut().zip(image) {
-        *to = *from;
-    }
-    copy
-}
-
 // Puts the words that are not as they were before, each with its place.
 fn put_changed(before: &[u16], image: &[u16], output: &mut Output) -> io::Result<()> {
-    write!(output, "|")?;
+    output.write_all(b"|")?;
     let mut some = false;
     for (place, (before, word)) in before.iter().zip(image).enumerate() {
         if before != word {
@@ -102,7 +91,7 @@ fn build<'a>(
             Ok(None)
         }
         Ok(n) => {
-            write!(output, "frame")?;
+            output.write_all(b"frame")?;
             Ok(Some(lent.put(n, output)?))
         }
     }
@@ -118,10 +107,10 @@ fn read(
     let mut written = 0;
     match master::read_reply(request, reply, lent.bytes) {
         Ok(Reading::Data(n)) => {
-            write!(output, "data")?;
+            output.write_all(b"data")?;
             written = n;
         }
-        Ok(Reading::Written) => write!(output, "written")?,
+        Ok(Reading::Written) => output.write_all(b"written")?,
         Ok(Reading::Exception(code)) => write!(output, "exception {}", u8::from(code))?,
         Err(why) => write!(output, "refused {}", u8::from(why))?,
     }
@@ -142,11 +131,11 @@ fn exchange(
     let Some(frame) = build(request, data, &mut to_build_in, output)? else {
         return Ok(());
     };
-    write!(output, "|")?;
+    output.write_all(b"|")?;
     let Some(reply) = respond(slave, frame, lent, output)? else {
         return Ok(());
     };
-    write!(output, "|")?;
+    output.write_all(b"|")?;
     let mut room = [0; master::LEAST_ROOM];
     let mut to_read_into = Lent::filled(&mut room, IN_EXCHANGE);
     read(request, reply, &mut to_read_into, output)

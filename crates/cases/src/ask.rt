@@ -1,4 +1,7 @@
 // What a line asks for: a call of the slave, or behind a word something of the master's half.
+ghost use Rattle.std.specs.Prelude.{◌≤◌, length, IfSome};
+ghost use Rattle.cases.specs.declared.ask.TheConstants.{MOST_WORDS};
+
 use crate::fields;
 use crate::lent::{Lent, MOST_ROOM};
 use crate::series::Series;
@@ -20,12 +23,18 @@ const UNUSED: Area = Area {
     access: Access::ReadOnly,
 };
 
-// What the image, the lent buffer and the bytes of a line are read into.
+// What a line's image, lent buffer and bytes are read into. No more of it is looked at than the line has filled.
 #[derive(Drop)]
 pub(crate) struct Room {
-    image: [u16; MOST_WORDS],
+    images: Images,
     lent: [u8; MOST_ROOM],
     bytes: [u8; MOST_BYTES],
+}
+
+#[derive(Drop)]
+struct Images {
+    image: [u16; MOST_WORDS],
+    before: [u16; MOST_WORDS],
 }
 
 // The bytes are a frame, the data of a request, or a reply.
@@ -49,12 +58,18 @@ pub(crate) struct Slave<'a> {
     pub(crate) station: Station,
     pub(crate) list: AreaList,
     pub(crate) image: &'a mut [u16],
+    // the image as it is lent
+    pub(crate) before: &'a [u16],
+    ghost within: { length image.now ≤ MOST_WORDS },
 }
 
 impl Room {
     pub(crate) fn new() -> Self {
         Room {
-            image: [0; MOST_WORDS],
+            images: Images {
+                image: [0; MOST_WORDS],
+                before: [0; MOST_WORDS],
+            },
             lent: [0; MOST_ROOM],
             bytes: [0; MOST_BYTES],
         }
@@ -68,7 +83,7 @@ impl<'a> Ask<'a> {
             return None;
         }
         let text = str::from_utf8(line).ok()?;
-        let (kind, rest) = Kind::read(text, &mut room.image)?;
+        let (kind, rest) = Kind::read(text, &mut room.images)?;
         let (lent, bytes) = rest.split_once('|')?;
         Some(Ask {
             kind,
@@ -80,7 +95,7 @@ impl<'a> Ask<'a> {
 
 impl<'a> Kind<'a> {
     // Reads what is asked for, and gives the text behind it too, without the bar between them.
-    fn read<'t>(text: &'t str, room: &'a mut [u16; MOST_WORDS]) -> Option<(Self, &'t str)> {
+    fn read<'t>(text: &'t str, room: &'a mut Images) -> Option<(Self, &'t str)> {
         let (word, rest) = text.split_once('|')?;
         match word {
             "build" => {
@@ -106,14 +121,19 @@ impl<'a> Kind<'a> {
 
 impl<'a> Slave<'a> {
     // Reads a slave's three parts, and gives the text behind them too.
-    fn read<'t>(text: &'t str, room: &'a mut [u16; MOST_WORDS]) -> Option<(Self, &'t str)> {
+    fn read<'t>(text: &'t str, room: &'a mut Images) -> Option<(Self, &'t str)> {
         let (station, rest) = text.split_once('|')?;
         let (list, rest) = rest.split_once('|')?;
         let (image, rest) = rest.split_once('|')?;
+        let station = read_station(station)?;
+        let list = read_list(list)?;
+        let image = read_image(image, &mut room.image)?;
+        let before = copy_of(image, &mut room.before);
         let slave = Slave {
-            station: read_station(station)?,
-            list: read_list(list)?,
-            image: read_image(image, room)?,
+            station,
+            list,
+            image,
+            before,
         };
         Some((slave, rest))
     }
@@ -151,7 +171,7 @@ fn read_station(text: &str) -> Option<Station> {
     })
 }
 
-// Of more than seventeen areas, which is too many, the first seventeen are kept.
+// Of more than seventeen areas, which is too many, the first seventeen are kept, and all are counted.
 fn read_list(text: &str) -> Option<AreaList> {
     let mut list = AreaList {
         entries: [UNUSED; LIST_ENTRIES],
@@ -160,12 +180,12 @@ fn read_list(text: &str) -> Option<AreaList> {
     if text.is_empty() {
         return Some(list);
     }
-    for part in text.split(',') {
+    for (k, part) in text.split(',').enumerate() {
         let area = read_area(part)?;
-        if list.len < LIST_ENTRIES {
-            list.entries[list.len] = area;
-            list.len += 1;
+        if k < LIST_ENTRIES {
+            list.entries[k] = area;
         }
+        list.len = k + 1;
     }
     Some(list)
 }
@@ -184,7 +204,9 @@ fn read_area(text: &str) -> Option<Area> {
 }
 
 // Fills the start of the room by a series, and sets the words that the text gives behind it.
-fn read_image<'a>(text: &str, room: &'a mut [u16; MOST_WORDS]) -> Option<&'a mut [u16]> {
+fn read_image<'a>(text: &str, room: &'a mut [u16; MOST_WORDS]) -> Option<&'a mut [u16]>
+    ensures { IfSome result (λ image. length image.now ≤ MOST_WORDS) }
+{
     let mut parts = text.split(',');
     let series = Series::read(parts.next()?)?;
     let image = room.get_mut(..series.count)?;
@@ -197,6 +219,15 @@ fn read_image<'a>(text: &str, room: &'a mut [u16; MOST_WORDS]) -> Option<&'a mut
         *word = fields::number(value)?;
     }
     Some(image)
+}
+
+// A copy of an image, in the start of the room.
+fn copy_of<'a>(image: &[u16], room: &'a mut [u16; MOST_WORDS]) -> &'a [u16]
+    requires { length image.now ≤ MOST_WORDS }
+{
+    let copy = &mut room[..image.len()];
+    copy.copy_from_slice(image);
+    copy
 }
 
 fn read_bytes<'a>(text: &str, room: &'a mut [u8; MOST_BYTES]) -> Option<&'a [u8]> {

@@ -1,13 +1,17 @@
 // A lent buffer, and its background, which it was filled with.
 ghost use Rattle.std.specs.Prelude.{◌≤◌, length};
+ghost use Rattle.cases.specs.declared.lent.TheConstants.{MOST_ROOM};
 
 use crate::output::Output;
 use crate::series::Series;
+use std::io;
 use std::io::Write;
-use std::{fmt, io};
 
 // The most bytes of a lent buffer.
 pub(crate) const MOST_ROOM: usize = 512;
+
+// A blank and two digits for each byte of a lent buffer.
+const TEXT_ROOM: usize = 3 * MOST_ROOM;
 
 // What is lent to the master's half in an exchange.
 pub(crate) const IN_EXCHANGE: Series = Series {
@@ -20,6 +24,7 @@ pub(crate) const IN_EXCHANGE: Series = Series {
 pub(crate) struct Lent<'a> {
     pub(crate) bytes: &'a mut [u8],
     background: Series,
+    ghost within: { length bytes.now ≤ MOST_ROOM },
 }
 
 impl<'a> Lent<'a> {
@@ -30,10 +35,10 @@ impl<'a> Lent<'a> {
         Some(Lent::filled(bytes, background))
     }
 
-    pub(crate) fn filled(bytes: &'a mut [u8], background: Series) -> Self {
-        for (i, byte) in bytes.iter_mut().enumerate() {
-            *byte = background.byte(i);
-        }
+    pub(crate) fn filled(bytes: &'a mut [u8], background: Series) -> Self
+        requires { length bytes.old ≤ MOST_ROOM }
+    {
+        background.fill(bytes);
         Lent { bytes, background }
     }
 
@@ -42,30 +47,17 @@ impl<'a> Lent<'a> {
         requires { written ≤ length self.now.bytes.now }
     {
         let bytes = &self.bytes[..written];
-        let hex = Hex(bytes);
-        let kept = self
-            .bytes
-            .iter()
-            .enumerate()
-            .skip(written)
-            .all(|(i, byte)| *byte == self.background.byte(i));
-        let rest = if kept { "kept" } else { "spilt" };
-        write!(output, "|{hex}|{rest}")?;
+        let mut text = [0; TEXT_ROOM];
+        let n = lines::write_bytes(bytes, &mut text).unwrap();
+        // The first byte has no blank before it.
+        let hex = &text[n.min(1)..n];
+        let mut background = [0; MOST_ROOM];
+        let background = &mut background[..self.bytes.len()];
+        self.background.fill(background);
+        let kept = self.bytes[written..] == background[written..];
+        output.write_all(b"|")?;
+        output.write_all(hex)?;
+        output.write_all(if kept { b"|kept" } else { b"|spilt" })?;
         Ok(bytes)
-    }
-}
-
-// Bytes in hex with single blanks between them.
-#[derive(Clone, Copy)]
-struct Hex<'a>(&'a [u8]);
-
-impl fmt::Display for Hex<'_> {
-    fn fmt<W: fmt::Write>(&self, f: &mut fmt::Formatter<W>) -> fmt::Result {
-        let mut blank = "";
-        for byte in self.0 {
-            write!(f, "{blank}{byte:02X}")?;
-            blank = " ";
-        }
-        Ok(())
     }
 }

@@ -10,6 +10,7 @@ mod lent;
 mod output;
 mod series;
 
+use ask::Room;
 use begun::Begun;
 use output::Output;
 use std::io;
@@ -29,26 +30,32 @@ fn run(rt: &HostRuntime) -> io::Result<()> {
     let mut stdin = rt.stdin();
     let mut output = Output::new(rt.stdout());
     let mut line = Begun::new();
+    let mut room = Room::new();
     let mut block = [0u8; BLOCK_ROOM];
     for _ in 0..u64::MAX {
         let n = stdin.read(&mut block)?;
         if n == 0 {
             break;
         }
-        answer_block(&block[..n], &mut line, &mut output)?;
+        answer_block(&block[..n], &mut line, &mut room, &mut output)?;
         output.flush()?;
     }
     if !line.is_empty() {
-        answer::answer(line.text(), &mut output)?;
+        answer::answer(line.text(), &mut room, &mut output)?;
     }
     output.flush()
 }
 
 // Answers the lines that end in a block, and begins the next.
-fn answer_block(block: &[u8], line: &mut Begun, output: &mut Output) -> io::Result<()> {
+fn answer_block(
+    block: &[u8],
+    line: &mut Begun,
+    room: &mut Room,
+    output: &mut Output,
+) -> io::Result<()> {
     let mut rest = block;
     while let Some(next) = line.take(rest) {
-        answer::answer(line.text(), output)?;
+        answer::answer(line.text(), room, output)?;
         line.clear();
         rest = next;
     }

@@ -26,8 +26,10 @@ impl Series {
         self.start.wrapping_add(self.step.wrapping_mul(i))
     }
 
-    // Number i, modulo 256.
-    pub(crate) fn byte(self, i: usize) -> u8 {
-        (self.word(i) % 256) as u8
+    // Fills bytes with the numbers, modulo 256.
+    pub(crate) fn fill(self, bytes: &mut [u8]) {
+        for (i, byte) in bytes.iter_mut().enumerate() {
+            *byte = (self.word(i) % 256) as u8;
+        }
     }
 }

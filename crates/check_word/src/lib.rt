@@ -16,7 +16,7 @@ const START: u32 = 0xffff;
 fn add_byte(word: u32, byte: u8) -> u32
     ensures { result ≡ add_byte word byte }
 {
-    let mixed = (word % 256) as u8 ^ byte;
+    let mixed = (word % 256) ^ (byte as u32);
     (table::entry(mixed) as u32) ^ (word / 256)
 }
 

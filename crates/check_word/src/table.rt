@@ -1,5 +1,5 @@
 // The table of 256 check words.
-ghost use Rattle.std.specs.Prelude.{◌≡◌};
+ghost use Rattle.std.specs.Prelude.{◌≡◌, ◌<◌};
 ghost use Rattle.check_word.specs.Back.{steps_back};
 
 const TABLE: [u16; 256] = [
@@ -28,7 +28,8 @@ const TABLE: [u16; 256] = [
 ];
 
 // Entry i is i put through the eight steps: eight steps back lead from it to i.
-pub(crate) fn entry(i: u8) -> u16
+pub(crate) fn entry(i: u32) -> u16
+    requires { i < 256 }
     ensures { steps_back 8 result ≡ i }
 {
     TABLE[i as usize]

@@ -94,7 +94,10 @@ pub fn byte_at(bytes: &[u8], i: usize) -> u8
 pub fn number_at(bytes: &[u8], i: usize) -> u16
     ensures { result ≡ number bytes.now i }
 {
-    u16::from_be_bytes([byte_at(bytes, i), byte_at(bytes, i.saturating_add(1))])
+    match bytes.get(i..) {
+        Some([high, low, ..]) => u16::from_be_bytes([*high, *low]),
+        _ => u16::from(byte_at(bytes, i)) * 256,
+    }
 }
 
 // What the function with a number does, and to what, if the number is one of the eight.

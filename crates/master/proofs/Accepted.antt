@@ -5,7 +5,7 @@ use mathlib.Core.Logic.{inr}
 use mathlib.Core.List.{List, []}
 use Prim.Native.Nat.{ℕ}
 use native.Mathlib.Omega.{arith}
-use lib.ListN.{take, drop, length-drop}
+use lib.ListN.{length, take, drop, length-drop}
 use lib.Seq.{length-take-le, take_at}
 use Rattle.std.specs.Prelude.{Ok}
 use Rattle.check_word.specs.Frame.{Bytes, Right}
@@ -14,7 +14,7 @@ use Rattle.master.specs.declared.Request.{Request}
 use Rattle.master.specs.declared.Reading.{Reading}
 use Rattle.master.specs.declared.Reading.TheVariants.{Data, Written, Exception}
 use Rattle.master.specs.Requests.{function_number}
-use Rattle.master.specs.Reading.{data_in, Fits, Left, ReadReply}
+use Rattle.master.specs.Reading.{data_in, Fits, Left, ToldBy, ReadReply}
 use Rattle.master.specs.Laws.{values, ReplyWith}
 use Rattle.master.proofs.Body.{not_wrong_right, frame_is, echo_is}
 use Rattle.master.proofs.Fits.{read_long, write_long, fits_one}
@@ -65,13 +65,15 @@ one_reply request values x y (Exception code) p q = p ∙ sym q
 
 -- ---- where it is accepted
 
+accepted_right : (request : Request) (room : ℕ) (reply : List ℕ) (reading : Reading) → ToldBy request room reply (Ok reading) → Right reply
+accepted_right request room reply reading told = not_wrong_right reply (λ wrong. told.0.1.0 (inr wrong))
+
 pub every_field : (request : Request) (reply before : List ℕ) (reading : Reading) (after : List ℕ) → Bytes reply
     → ReadReply request reply before (Ok reading) after → ReplyWith request (values reading after) reply reading
 every_field request reply before reading after small read =
-    let (none, fits) = read.told in
-    let right = not_wrong_right reply (λ wrong. none.1.0 (inr wrong)) in
-    let same = values_in_lem request reply before reading after fits read.left in
-    rw same (bytes_are request reply reading small right fits)
+    let right = accepted_right request (length before) reply reading read.told in
+    let same = values_in_lem request reply before reading after read.told.1 read.left in
+    rw same (bytes_are request reply reading small right read.told.1)
 
 pub one_value : (p q : Request) (reply before other : List ℕ) (a b : Reading) (after_a after_b : List ℕ)
     → ReadReply p reply before (Ok a) after_a → ReadReply q reply other (Ok b) after_b

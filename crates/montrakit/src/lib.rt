@@ -17,6 +17,7 @@ use slave::Station;
 use telling::BadArgument;
 
 // The check word of any bytes.
+#[inline(never)]
 pub fn montrakit_check_word(bytes: &[u8]) -> u16
     ensures { result ≡ check_word bytes.now }
 {

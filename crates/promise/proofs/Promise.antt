@@ -73,6 +73,11 @@ pub decides_map : (P Q : Type 0) (t : Bool) → (P → Q) → (Q → P) → Deci
 decides_map P Q true to back says = to says
 decides_map P Q false to back says = λ q. says (back q)
 
+-- the opposite
+pub decides_not : (P Q : Type 0) (t : Bool) → (P → Q → ⊥) → ((P → ⊥) → Q) → Decides P t → Decides Q (not t)
+decides_not P Q true excludes otherwise says = excludes says
+decides_not P Q false excludes otherwise says = otherwise says
+
 -- ---- behind a test `if t`
 
 pub if_taken : (Fact : Type 0) (t : Bool) → Decides Fact t → t ≡ true → Fact

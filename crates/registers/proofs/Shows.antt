@@ -9,7 +9,8 @@ use native.Mathlib.Omega.{arith}
 use lib.Arith.{digits_lt}
 use lib.Pow.{pow_pos, pow-add, shr_lt}
 use lib.ListN.{get_or}
-use Rattle.registers.specs.Memory.{bit, from}
+use Rattle.registers.specs.Memory.{bit, word_bits, byte_bits, FitIn, from}
+use Rattle.registers.specs.Packing.{packed_bit}
 use Rattle.registers.specs.Pieces.{Shows}
 use Rattle.registers.proofs.Places.{lt_or_le}
 use Rattle.registers.proofs.Bit.{bit_low, bit_shifted, bit_under, bit_over}
@@ -65,3 +66,27 @@ module _ (w : ℕ) (xs : List ℕ) where
   shows_next q m v small s =
       shows_join (m * w) w (from (q * w) (bit_at w xs)) v (get_or xs (q + m) 0) s
       (shows_run (shows_number (q + m) small) (λ p h. ap (bit_at w xs) (omega arith)))
+
+-- three packed bytes show 24 of the bits, and sixteen of them are taken
+pub three_bytes : (bytes : List ℕ) (first low middle high bits : ℕ) → FitIn byte_bits bytes → low ≡ get_or bytes (first / 8) 0
+    → middle ≡ get_or bytes (first / 8 + 1) 0 → high ≡ get_or bytes (first / 8 + 2) 0
+    → bits ≡ high * 65536 + (middle * 256 + low) → Shows word_bits (from first (packed_bit bytes)) (bits / 2 ^ (first % 8) % 65536)
+three_bytes bytes first low middle high bits fit el em eh e =
+    let at = first / 8 in
+    let place = first % 8 in
+    let two = get_or bytes (at + 1) 0 * 256 + get_or bytes at 0 in
+    rw (e, el, em, eh)
+    (shows_run
+    (shows_part 24 place word_bits (at * 8) (packed_bit bytes) (get_or bytes (at + 2) 0 * 65536 + two) (omega arith)
+    (shows_next 8 bytes at 2 two (fit (at + 2))
+    (shows_next 8 bytes at 1 (get_or bytes at 0) (fit (at + 1)) (shows_number 8 bytes at (fit at)))))
+    (λ p h. ap (packed_bit bytes) (omega arith)))
+
+-- two packed bytes show sixteen of the bits, from the first of them on
+pub two_bytes : (bytes : List ℕ) (first bits : ℕ) → FitIn byte_bits bytes → first % 8 ≡ 0
+    → bits ≡ get_or bytes (first / 8 + 1) 0 * 256 + get_or bytes (first / 8) 0 → Shows word_bits (from first (packed_bit bytes)) bits
+two_bytes bytes first bits fit h e =
+    let at = first / 8 in
+    rw e
+    (shows_run (shows_next 8 bytes at 1 (get_or bytes at 0) (fit (at + 1)) (shows_number 8 bytes at (fit at)))
+    (λ p below. ap (packed_bit bytes) (omega arith)))

@@ -39,6 +39,20 @@ fn packed_bits(bytes: &[u8], first: usize) -> u16
     ((bits >> (first % BYTE_BITS)) % 65536) as u16
 }
 
+// The same where all sixteen are there.
+fn whole_bits(bytes: &[u8], first: usize) -> u16
+    requires { first + word_bits ≤ length bytes.now * byte_bits }
+    ensures { Shows word_bits (from first (packed_bit bytes.now)) result }
+{
+    let at = first / BYTE_BITS;
+    let place = first % BYTE_BITS;
+    if place == 0 {
+        return u16::from_le_bytes([bytes[at], bytes[at + 1]]);
+    }
+    let bits = u32::from_le_bytes([bytes[at], bytes[at + 1], bytes[at + 2], 0]);
+    ((bits >> place) % 65536) as u16
+}
+
 // Packs `whole` times sixteen bits, from bit `first` on.
 fn pack_whole(image: &[u16], first: usize, whole: usize, buffer: &mut [u8])
     requires { (first + whole * word_bits ≤ length image.now * word_bits) × (2 * whole ≤ length buffer.old) }
@@ -91,7 +105,7 @@ fn store_whole(image: &mut [u16], word: usize, whole: usize, bytes: &[u8], first
     ensures { BitsStored (word * word_bits) (whole * word_bits) (from first (packed_bit bytes.now)) image.old image.new }
 {
     for i in 0..whole {
-        image[word + i] = packed_bits(bytes, first + WORD_BITS * i);
+        image[word + i] = whole_bits(bytes, first + WORD_BITS * i);
     }
 }
 

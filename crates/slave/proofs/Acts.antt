@@ -2,14 +2,18 @@
 -- Assumes nothing.
 use mathlib.Core.Path.{◌≡◌, refl, sym, ap, ◌∙◌}
 use mathlib.Core.List.{List, ◌∷◌}
-use Prim.Native.Nat.{ℕ, ◌+◌, ◌-◌}
+use Prim.Native.Nat.{ℕ, ◌+◌, ◌*◌, ◌-◌, ◌≤◌}
 use native.Mathlib.Omega.{arith}
 use lib.ListN.{length, take, drop}
 use Rattle.check_word.specs.Frame.{framed}
+use Rattle.frames.specs.declared.Act.{Act}
 use Rattle.frames.specs.declared.Act.TheVariants.{Read, WriteOne, WriteRun}
+use Rattle.frames.specs.declared.Width.{Width}
+use Rattle.frames.specs.declared.Width.TheVariants.{Bit, Word}
 use Rattle.frames.specs.Fields.{function_field, quantity_field, value_field, byte_count_field, data_field, up_to_quantity}
-use Rattle.frames.specs.Limits.{bytes_for, reply_length}
+use Rattle.frames.specs.Limits.{most_of_a_run, most, bytes_for, reply_length}
 use Rattle.slave.specs.declared.decide.Request.{Request}
+use Rattle.slave.specs.Conditions.{least_room}
 use Rattle.slave.specs.Answer.{StoredOne, StoredRun, over, ReplyTo, ImageAfter, Done}
 use Rattle.slave.specs.Carrying.{ReadWritten, Possible}
 use Rattle.slave.proofs.Reply.{reply_length_lem}
@@ -17,6 +21,22 @@ use Rattle.slave.proofs.Reply.{reply_length_lem}
 -- the part of a frame that is lent to be stored: what stands between byte count and check word
 abbrev lent_bytes : List ℕ → List ℕ
 lent_bytes frame = take (length frame - 2 - 7) (drop 7 frame)
+
+most_have_room : (width : Width) (count : ℕ) → count ≤ most_of_a_run width → 5 + bytes_for width count ≤ least_room
+most_have_room Bit count h = omega arith
+most_have_room Word count h = omega arith
+
+-- a byte takes at most eight of what is addressed
+pub eight_to_a_byte : (width : Width) (count : ℕ) → count ≤ 8 * bytes_for width count
+eight_to_a_byte Bit count = omega arith
+eight_to_a_byte Word count = omega arith
+
+most_at_most_256 : (act : Act) (width : Width) → most act width ≤ 256
+most_at_most_256 Read Bit = omega arith
+most_at_most_256 Read Word = omega arith
+most_at_most_256 WriteOne width = omega arith
+most_at_most_256 WriteRun Bit = omega arith
+most_at_most_256 WriteRun Word = omega arith
 
 module _ {frame : List ℕ} {words room : ℕ} {request : Request} (possible : Possible frame words room request) where
   run_counted : request.act ≡ WriteRun → length frame ≡ 9 + byte_count_field frame

@@ -25,6 +25,7 @@ use Rattle.slave.specs.Answer.{Call, Answer, Respond}
 use Rattle.slave.specs.Laws as laws-of
 use Rattle.slave.proofs.Laws as laws
 use Rattle.slave.specs.contracts.respond as respond
+use Rattle.slave.specs.contracts.respond_by_value as respond_by_value
 use Rattle.slave.proofs.respond_to_words.Reads as to-words
 use Rattle.slave.proofs.respond_by_value.Reads as by_value
 use Rattle.slave.proofs.to_send.Reads as to-send
@@ -86,6 +87,13 @@ to_words_takes : (κs : _) (a : _) → to-words.Pre κs a
 to_words_takes κs a = tt
 
 -- ---- `respond_by_value`
+
+-- what it ensures is `Respond` of the areas of its list, the first of its entries: `a.1.0` is the list
+respond_by_value_ensures : {M : Type 1} {𝓤 : Ura M} (𝓛 : Logic 𝓤) (mem : Memory → SProp 𝓤) (run : Routine → Fun 𝓤)
+    (κs : _) (a : _) (x : Outcome) (s : _)
+    → (respond_by_value.clauses 𝓛 mem run κs a).ensures tt x s
+    ≡ fact 𝓤 (Respond a.0 (listed a.1.0) a.1.1.0.now a.1.1.1.0.now a.1.1.1.1.0.now x s.1.1.1.0.now s.1.1.1.1.0.now)
+respond_by_value_ensures 𝓛 mem run κs a x s = refl
 
 -- it determines outcome, image and reply buffer
 by_value_determined : (κs : _) (a : _) (x y : Outcome) (s t : _) → by_value.Post κs a x s → by_value.Post κs a y t

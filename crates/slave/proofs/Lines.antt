@@ -2,10 +2,12 @@
 -- Assumes nothing.
 use mathlib.Core.Path.{◌≡◌, sym, ap, ◌∙◌}
 use mathlib.Core.Logic.{◌⊎◌, inl, inr, ◌≢◌}
+use mathlib.Core.Bool.{Bool, true, false, not}
 use mathlib.Core.List.{List, [], ◌∷◌}
 use Prim.Native.Nat.{ℕ}
 use native.Mathlib.Omega.{arith}
-use Rattle.promise.specs.Promise.{Determined}
+use Rattle.promise.specs.Promise.{Determined, Decides}
+use Rattle.promise.proofs.Promise.{if_taken, if_left, passed, failed}
 use Rattle.slave.specs.declared.Station.{Station}
 use Rattle.slave.specs.declared.decide.Decision.{Decision}
 use Rattle.slave.specs.Numbers.{Kind, refused, silence, exception, accepted}
@@ -68,3 +70,22 @@ module _ {When : Type 0} {lines : List Line} {station : Station} {frame : List �
 
   pub past : (When → ⊥) → Decided lines station frame decision → Decided ((given, When) ∷ lines) station frame decision
   past not later = record { kind = inr (not, later.kind); fields = later.fields }
+
+  -- behind a test of the code, `if t`, that decides the line
+  pub here_if : (t : Bool) → Decides When t → t ≡ true → kind_decided decision ≡ given → ReadsIfAccepted station frame decision
+      → Decided ((given, When) ∷ lines) station frame decision
+  here_if t says taken = here (if_taken When t says taken)
+
+  pub past_if : (t : Bool) → Decides When t → t ≡ false → Decided lines station frame decision
+      → Decided ((given, When) ∷ lines) station frame decision
+  past_if t says left = past (if_left When t says left)
+
+-- behind a test `if !t`, where the line applies if the fact fails
+module _ {Fact : Type 0} {lines : List Line} {station : Station} {frame : List ℕ} {decision : Decision} {given : Kind} where
+  pub here_unless : (t : Bool) → Decides Fact t → not t ≡ true → kind_decided decision ≡ given → ReadsIfAccepted station frame decision
+      → Decided ((given, (Fact → ⊥)) ∷ lines) station frame decision
+  here_unless t says taken = here (failed Fact t says taken)
+
+  pub past_unless : (t : Bool) → Decides Fact t → not t ≡ false → Decided lines station frame decision
+      → Decided ((given, (Fact → ⊥)) ∷ lines) station frame decision
+  past_unless t says left = past (λ other. other (passed Fact t says left))

@@ -110,6 +110,7 @@ fn decide_frame(station: Station, verdict: Verdict, frame: &[u8]) -> Decision
 }
 
 // From line 14 on, of a function in the table.
+#[inline(always)]
 fn decide_request(
     station: Station,
     verdict: Verdict,
@@ -146,6 +147,7 @@ fn decide_request(
 }
 
 // Line E3.
+#[inline(always)]
 fn is_out_of_limits(act: Act, width: Width, count: u16, frame: &[u8]) -> bool
     requires { count ≡ quantity act frame.now }
     ensures { Decides (OutOfLimits frame.now act width) result }

@@ -10,4 +10,4 @@ tested : counts 0 TABLE ≡ true
 tested = refl
 
 pub returns : goal.returns
-returns c = entry_back TABLE tested c.args.i c.ranges.i.fits
+returns c = entry_back TABLE tested c.args.i c.requires

@@ -10,5 +10,5 @@ use Rattle.registers.proofs.pieces.store_whole.Goals as goal
 pub loop-i-preserved : goal.loop-i-preserved
 loop-i-preserved c =
     let bytes = c.args.bytes.now in
-    stored_next c.args.word c.loop-i.i c.packed_bits.result (from c.args.first (packed_bit bytes)) c.args.image.now c.loop-i.image
-    (omega arith) c.loop-i.invariant (shows_run c.packed_bits.ensures (λ p h. ap (packed_bit bytes) (omega arith)))
+    stored_next c.args.word c.loop-i.i c.whole_bits.result (from c.args.first (packed_bit bytes)) c.args.image.now c.loop-i.image
+    (omega arith) c.loop-i.invariant (shows_run c.whole_bits.ensures (λ p h. ap (packed_bit bytes) (omega arith)))
